@@ -6,15 +6,15 @@ pub use Rattle.just_parts.specs.Asts.{root_ast_key, same_ast_key}
 pub use Rattle.just_parts.specs.Evaluator.{count_fault_of}
 pub use Rattle.just_run_layers.specs.Host.{Answer, KeepsPromises}
 pub use Rattle.just_parts.specs.Layers.{override_at}
-pub use Rattle.just_run_layers.specs.Steps.{kept_by}
+pub use Rattle.just_run_layers.specs.Interactions.{log_of}
 pub use Rattle.just_loader.specs.ModuleFile.{module_files}
 pub use Rattle.just_loader.specs.Reached.{world_of}
-pub use Rattle.just_justfile.specs.Closed.{AreClosed, IsClosed, IsHeld, IsRooted, is_ordered}
+pub use Rattle.just_justfile.specs.Closed.{AreClosed, IsClosedModule, IsHeld, IsRooted, is_ordered}
 pub use Rattle.just_invoke.specs.Cause.{IsOfWords, cause_of}
-pub use Rattle.just_invoke.specs.Outcome.{IsExpected, IsOutcome}
-pub use Rattle.just_invoke.specs.Split.{IsFault, IsSplit, invoked_of}
+pub use Rattle.just_invoke.specs.Outcome.{RunsAsExpected, IsOutcome}
+pub use Rattle.just_invoke.specs.Split.{HasWordsFault, IsSplit, invoked_of}
 pub use Rattle.just_justfile.specs.Running.{CanRun, HoldsOverridden, TellsBareLines}
-pub use Rattle.just_justfile.specs.Walks.{AreOrdered, IsOrdered}
+pub use Rattle.just_justfile.specs.Walks.{AreOrdered, AreModulesOrdered}
 pub use Rattle.just_overrides.specs.Inserted.{AreAsBefore}
-pub use Rattle.just_compiler.specs.Analyzed.{Analyzes, NamesAnalyzed}
+pub use Rattle.just_compiler.specs.Analyzed.{Analyzes, TellsAnalyzed}
 pub use Rattle.just_compiler.specs.Compiled.{Compiles}

@@ -102,6 +102,15 @@ pub mod justfile {
     pub use just_justfile::{Justfile, RecipeKey};
 }
 
+/// What listings show of a compiled module, and how recipes are called and aliases written.
+pub mod listing {
+    pub use just_ast_definitions::ShownAlias;
+    pub use just_listings::{
+        AliasListing, GroupListing, Listing, ModuleListing, RecursiveListing, Stability,
+    };
+    pub use just_recipe::RecipeSignature;
+}
+
 /// Texts, lists and shared values that contracts see as plain data.
 pub mod data {
     pub use just_data::{BorrowedText, Sequence, Shared, Text};
@@ -114,6 +123,10 @@ pub use data::{BorrowedText, Sequence, Shared, Text};
 pub use dependency::Dependency;
 pub use invocation_parser::{Invocation, InvocationParser};
 pub use justfile::{Justfile, RecipeKey, Report, Run};
+pub use listing::{
+    AliasListing, GroupListing, Listing, ModuleListing, RecipeSignature, RecursiveListing,
+    ShownAlias, Stability,
+};
 pub use modulepath::Modulepath;
 pub use recipe::{Recipe, Recipes, RunRecipe};
 pub use recipe_resolver::RecipeResolver;

@@ -1,1 +1,2 @@
+pub mod DefinitionTexts
 pub mod Parameter

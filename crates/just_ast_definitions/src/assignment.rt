@@ -2,6 +2,7 @@ use just_ast_expressions::Expression;
 use just_data::Exact;
 use just_names::{Name, Number};
 use just_table::Keyed;
+use std::fmt;
 
 /// A variable and its value.
 #[derive(Clone, PartialEq, Eq, Drop)]
@@ -35,5 +36,19 @@ impl<'src> Keyed<'src> for Assignment<'src> {
 
     fn key(&self) -> &'src str {
         self.name.lexeme()
+    }
+}
+
+impl<'src> fmt::Display for Assignment<'src> {
+    ghost use Rattle.std.specs.Prelude.{Some};
+    ghost use Rattle.just_ast_definitions.specs.DefinitionTexts.{assignment_text};
+
+    ghost output = { λ assignment. Some (assignment_text assignment) };
+
+    fn fmt<W: fmt::Write>(&self, f: &mut fmt::Formatter<W>) -> fmt::Result {
+        if self.export {
+            f.write_str("export ")?;
+        }
+        write!(f, "{} := {}", self.name, self.value)
     }
 }

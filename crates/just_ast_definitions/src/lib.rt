@@ -9,7 +9,7 @@ pub mod line;
 pub mod parameter;
 pub mod setting;
 
-pub use alias::Alias;
+pub use alias::{Alias, ShownAlias};
 pub use assignment::Assignment;
 pub use attribute::{ArgumentAttribute, ArgumentProperty, CacheAttribute, EnvironmentAttribute};
 pub use function_definition::{FunctionDefinition, FunctionParameter};

@@ -9,6 +9,7 @@ use just_data::{Exact, Text};
 use just_names::{Name, Number};
 use just_patterns::Pattern;
 use std::alloc::AllocError;
+use std::fmt;
 
 /// How many words a parameter takes.
 #[derive(Clone, Copy, PartialEq, Eq)]
@@ -157,6 +158,17 @@ impl<'src> Clone for Parameter<'src> {
 
 impl<'src> Exact for Parameter<'src> {
     ghost exact = { λ x y h. h };
+}
+
+/// A parameter is shown as the text spells it.
+impl<'src> fmt::Display for Parameter<'src> {
+    ghost use Rattle.std.specs.Prelude.{Some};
+
+    ghost output = { λ parameter. Some parameter.text };
+
+    fn fmt<W: fmt::Write>(&self, f: &mut fmt::Formatter<W>) -> fmt::Result {
+        fmt::Display::fmt(&self.text, f)
+    }
 }
 
 /// Whether a parameter takes all words from its place on.

@@ -1,3 +1,4 @@
+pub mod ExpressionText
 pub mod Parts
 pub mod Settings
 pub mod Taken

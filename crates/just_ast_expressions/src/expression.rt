@@ -6,6 +6,7 @@ use crate::parts::Parts;
 use just_data::{Exact, Excerpt, Sequence, Shared, Text};
 use just_names::{Name, Number};
 use std::alloc::AllocError;
+use std::fmt;
 
 /// How two values are compared.
 #[derive(Clone, Copy, PartialEq, Eq)]
@@ -161,4 +162,16 @@ impl<'src> Clone for Expression<'src> {
 
 impl<'src> Exact for Expression<'src> {
     ghost exact = { λ x y h. h };
+}
+
+/// An expression is shown as it is spelled, so this takes little stack also for a deep one.
+impl<'src> fmt::Display for Expression<'src> {
+    ghost use Rattle.std.specs.Prelude.{Some};
+    ghost use Rattle.just_ast_expressions.specs.ExpressionText.{expression_text};
+
+    ghost output = { λ expression. Some (expression_text expression) };
+
+    fn fmt<W: fmt::Write>(&self, f: &mut fmt::Formatter<W>) -> fmt::Result {
+        fmt::Display::fmt(&self.text, f)
+    }
 }

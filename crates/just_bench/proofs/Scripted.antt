@@ -4,7 +4,7 @@ use Rattle.just_run_layers.specs.declared.host.Entry.{Entry}
 use Rattle.just_run_layers.specs.declared.host.Entry.TheVariants as entry
 use Rattle.just_run_layers.specs.Evaluation.{Inquiry}
 use Rattle.just_run_layers.specs.Host.{Answer, Ran, given, paired}
-use Rattle.just_run_layers.specs.Steps.{ToHost, ToEvaluator}
+use Rattle.just_run_layers.specs.Interactions.{ToHost, ToEvaluator}
 use Rattle.just_bench_evaluation.specs.Answered.{plain_answer}
 use Rattle.just_bench.specs.declared.script.Script.{Script}
 use Rattle.just_bench.specs.Promises.{EachIsPromised}

@@ -3,7 +3,7 @@ use Rattle.std.proofs.Common.{BuildHasherDefault, FoldHasher}
 use Rattle.std.specs.Prelude.{◌≡◌, List, [], Some, Result, Err, IsOk}
 use Rattle.std.specs.HashMap.{HashMap}
 use Rattle.just_errors.specs.declared.error.Error.{Error}
-use Rattle.just_execution.specs.declared.running.Report.{Report}
+use Rattle.just_execution.specs.declared.run.Report.{Report}
 use Rattle.just_justfile.specs.declared.justfile.Justfile.{Justfile}
 use Rattle.just_names.specs.Texts.{Text}
 use Rattle.just_names.specs.declared.number.Number.{Number}
@@ -13,7 +13,7 @@ use Rattle.just_recipe.specs.declared.dependency.Dependency.{Dependency}
 use Rattle.just_recipe.specs.declared.recipe.Recipe.{Recipe}
 use Rattle.just_run_layers.specs.declared.host.Entry.{Entry}
 use Rattle.just_run_layers.specs.Evaluation.{ScopeRequest}
-use Rattle.just_run_layers.specs.Steps.{kept_by}
+use Rattle.just_run_layers.specs.Interactions.{log_of}
 use Rattle.just_invoke.specs.Outcome.{IsOutcome}
 use Rattle.just_scopes.specs.Opening.{Front, front_of}
 use Rattle.just_invoke.specs.Split.{Counts}
@@ -39,7 +39,7 @@ plain_counts = count_fault_of evaluator
 abbrev pub IsPlainOutcome : Justfile → List (Recipe Dependency) → Config → Front → List Text → Script → List Entry → List Entry → Result Report Error → Type 0
 IsPlainOutcome root recipes config front words script old new result =
     (requests : List ScopeRequest) ×
-    IsOutcome plain_counts root recipes words config front (λ inquiry. Some (plain_answer inquiry)) (script_promises script) (kept_by old []) (kept_by new requests) result
+    IsOutcome plain_counts root recipes words config front (λ inquiry. Some (plain_answer inquiry)) (script_promises script) (log_of old []) (log_of new requests) result
 
 -- What a recorder without a script, which was asked nothing, is asked by a run, and what the run comes to.
 pub record Ran (root : Justfile) (recipes : List (Recipe Dependency)) (config : Config) (front : Front) (words : List Text) : Type 0 where

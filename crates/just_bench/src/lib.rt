@@ -4,13 +4,13 @@
 
 mod entries;
 pub mod laws;
+mod messages;
 mod one_line;
 mod program_error;
 pub mod recorder;
 mod run;
 pub mod script;
 pub mod stop_writer;
-mod told;
 mod words;
 
 pub use entries::write_entries;
@@ -18,10 +18,10 @@ pub use just_bench_bundle::{BundleError, InputError, paths_like, read_sources, r
 pub use just_bench_evaluation::PlainEvaluation;
 pub use just_bench_reading::{parse, root_source};
 pub use just_bench_syntax::PlainSyntax;
+pub use messages::{tell, tell_usage};
 pub use program_error::ProgramError;
 pub use recorder::Recorder;
 pub use run::run_and_write;
 pub use script::{Queue, Script};
 pub use stop_writer::StopWriter;
-pub use told::{tell, tell_usage};
 pub use words::run_words;

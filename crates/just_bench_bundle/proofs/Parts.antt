@@ -9,7 +9,7 @@ use Rattle.just_paths.specs.Clean.{IsClean}
 use Rattle.just_table.specs.Entries.{put}
 use Rattle.just_loader.specs.Sources.{Files}
 use Rattle.just_bench_expressions.specs.Lines.{is_newline}
-use Rattle.just_bench_bundle.specs.Bundle.{Text, mark, file_of, line_ends, HasNoMark, AreParts, AreHeld, HasBadPath, HoldsBundle, IsBeforeLine, IsNoBundle, IsNoFile}
+use Rattle.just_bench_bundle.specs.Bundle.{Text, mark, file_of, line_ends, HasNoMark, AreParts, BundleHolds, HasBadPath, HoldsBundle, IsBeforeLine, IsNoBundle, IsNoFile}
 use Rattle.just_bench_bundle.specs.declared.bundle.BundleError.{BundleError}
 use Rattle.just_bench_bundle.specs.declared.bundle.BundleError.TheVariants as error
 
@@ -53,7 +53,7 @@ ends_together xs ys = sum_by-append (λ b. cond (is_newline b) 1 0) xs ys
 -- What is read so far: the parts and what is left, which begins in this line, make the text.
 pub record Taken (text rest : Text) (line : ℕ) (held : Files) : Type 0 where
   pub parts : List Text
-  pub files : AreHeld (map file_of parts) held
+  pub files : BundleHolds (map file_of parts) held
   pub follows : rest ≢ [] → (more : List Text) → AreParts (mark ++ rest) more → AreParts text (parts ++ more)
   pub done : rest ≡ [] → AreParts text parts
   pub stands : rest ≢ [] → (front : Text) × (text ≡ front ++ (mark ++ rest)) × IsBeforeLine front × (line ≡ line_ends front + 1)
@@ -68,7 +68,7 @@ ends_on line front q x at part =
 pub taken_none : (text rest : Text) → text ≡ mark ++ rest → rest ≢ [] → ((front : Text) → rest ≢ front ++ 10 ∷ mark) → Taken text rest 1 []
 taken_none text rest is some unmarked = record {
   parts = [];
-  files = AreHeld.nothing;
+  files = BundleHolds.nothing;
   follows = λ _ more m. subst (λ t. AreParts t more) (sym is) m;
   done = λ e. absurd (some e);
   stands = λ _. ([], is, inl refl, refl);
@@ -86,7 +86,7 @@ taken_more text s x t q line held held' so_far is part clear puts =
     let here : text ≡ (at.0 ++ (mark ++ (q ++ 10 ∷ []))) ++ (mark ++ t) = at.1 ∙ ap (λ w. at.0 ++ w) (marked ∙ ap (λ w. mark ++ w) (sym (append_assoc q (10 ∷ []) (mark ++ t)))) ∙ sym (append_assoc at.0 (mark ++ (q ++ 10 ∷ [])) (mark ++ t)) in
     record {
       parts = so_far.parts ++ (q ++ 10 ∷ []) ∷ [];
-      files = rw (puts, map-append file_of so_far.parts ((q ++ 10 ∷ []) ∷ [])) (AreHeld.also (file_of (q ++ 10 ∷ [])) so_far.files);
+      files = rw (puts, map-append file_of so_far.parts ((q ++ 10 ∷ []) ∷ [])) (BundleHolds.also (file_of (q ++ 10 ∷ [])) so_far.files);
       follows = λ _ more m. rw (append_assoc so_far.parts ((q ++ 10 ∷ []) ∷ []) more) (so_far.follows some ((q ++ 10 ∷ []) ∷ more) (subst (λ w. AreParts w ((q ++ 10 ∷ []) ∷ more)) (sym marked) (AreParts.more q (mark ++ t) more clear m)));
       done = λ e. absurd (left e);
       stands = λ _. (at.0 ++ (mark ++ (q ++ 10 ∷ [])), here, inr (at.0 ++ (mark ++ q), sym (append_assoc at.0 (mark ++ q) (10 ∷ []))), ends_on line at.0 q x at.3 part);
@@ -97,7 +97,7 @@ taken_more text s x t q line held held' so_far is part clear puts =
 pub taken_last : (text s t : Text) (line line' : ℕ) (held held' : Files) → Taken text s line held → t ≡ [] → s ≢ [] → HasNoMark s → held' ≡ put (file_of s).path (file_of s) held → Taken text t line' held'
 taken_last text s t line line' held held' so_far none some clear puts = record {
   parts = so_far.parts ++ s ∷ [];
-  files = rw (puts, map-append file_of so_far.parts (s ∷ [])) (AreHeld.also (file_of s) so_far.files);
+  files = rw (puts, map-append file_of so_far.parts (s ∷ [])) (BundleHolds.also (file_of s) so_far.files);
   follows = λ left. absurd (left none);
   done = λ _. so_far.follows some (s ∷ []) (AreParts.last s clear);
   stands = λ left. absurd (left none);
@@ -186,5 +186,5 @@ pub holds_none : (text : Text) (held : Files) → text ≡ [] → held ≡ [] �
 holds_none text held empty nothing = record {
   parts = [];
   whole = subst (λ t. AreParts t []) (sym empty) AreParts.none;
-  files = subst (AreHeld []) (sym nothing) AreHeld.nothing;
+  files = subst (BundleHolds []) (sym nothing) BundleHolds.nothing;
 }

@@ -31,15 +31,15 @@ abbrev pub file_of : Text → SourceFile
 file_of part = record { path = before_first is_newline part; text = after_first is_newline part }
 
 -- the files under their paths, where a later one of an equal path replaces the earlier
-pub data AreHeld : List SourceFile → Files → Type 0 where
-  nothing : AreHeld [] []
-  also : {files : List SourceFile} {held : Files} (file : SourceFile) → AreHeld files held → AreHeld (files ++ file ∷ []) (put file.path file held)
+pub data BundleHolds : List SourceFile → Files → Type 0 where
+  nothing : BundleHolds [] []
+  also : {files : List SourceFile} {held : Files} (file : SourceFile) → BundleHolds files held → BundleHolds (files ++ file ∷ []) (put file.path file held)
 
 -- the files that the text has
 pub record HoldsBundle (text : Text) (held : Files) : Type 0 where
   pub parts : List Text
   pub whole : AreParts text parts
-  pub files : AreHeld (map file_of parts) held
+  pub files : BundleHolds (map file_of parts) held
 
 -- a line begins after the text
 abbrev pub IsBeforeLine : Text → Type 0

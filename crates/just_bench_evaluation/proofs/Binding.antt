@@ -20,7 +20,7 @@ use Rattle.just_parts.specs.Needs.{same_number}
 use Rattle.just_run_layers.specs.declared.held.Held.{Held}
 use Rattle.just_run_layers.specs.Covering.{BindsParameters, binds, has_parameter}
 use Rattle.just_bench_evaluation.specs.Parameters.{bind_all, none_bound_in, parameter_value, scope_with, with_parameter}
-use Rattle.just_bench_evaluation.specs.Refusals.{Gives}
+use Rattle.just_bench_evaluation.specs.Refusals.{TellsValue}
 use Rattle.just_bench_values.specs.Values.{Outcome}
 
 binds_none : (scope : Scope) → BindsParameters [] scope scope
@@ -108,6 +108,6 @@ drop_one i xs x h e =
 
 -- what is answered for parameters binds them
 pub answer_binds : (value : Scope → Expression → Outcome) (scope : Scope) (ps : List Parameter) (gs : List (List Text)) (r : Result Held Refusal) →
-    Gives (bind_all value ps gs (none_bound_in scope)) r → IfOk r (λ bound. BindsParameters ps scope bound.scope)
+    TellsValue (bind_all value ps gs (none_bound_in scope)) r → IfOk r (λ bound. BindsParameters ps scope bound.scope)
 answer_binds value scope ps gs (Ok bound) h = binds_all value ps gs (none_bound_in scope) bound h
 answer_binds value scope ps gs (Err e) h = tt

@@ -16,7 +16,7 @@ use Rattle.just_run_layers.specs.LineTexts.{BeginsPlain, EndsWithBackslash}
 use Rattle.just_errors.specs.declared.refusal.Refusal.{Refusal}
 use Rattle.just_ast_expressions.specs.declared.expression.Expression.{Expression}
 use Rattle.just_bench_evaluation.specs.Lines.{fragment_text, fragments_text}
-use Rattle.just_bench_evaluation.specs.Refusals.{Gives}
+use Rattle.just_bench_evaluation.specs.Refusals.{TellsValue}
 use Rattle.just_bench_values.specs.Values.{Outcome}
 use Rattle.just_bench_syntax.specs.Sigils.{back, begun, front, leading, same, sigil_of, text_of}
 
@@ -112,10 +112,10 @@ backslash_ends value (f ∷ g ∷ parts) text h b =
     subst EndsWithBackslash (sym cut.4) (ends_after cut.0 cut.1 (backslash_ends value (g ∷ parts) cut.1 cut.3 (ap (λ t. ends_with nat_eq t (92 ∷ [])) (sym (back_later f g parts)) ∙ b)))
 
 -- what is answered for a line
-pub answer_begins : (value : Expression → Outcome) (parts : List Fragment) (C : Type 0) (r : Result Text Refusal) → Gives (fragments_text value parts) r → IfOk r (λ text. C → BeginsPlain (length (leading (front parts))) text)
+pub answer_begins : (value : Expression → Outcome) (parts : List Fragment) (C : Type 0) (r : Result Text Refusal) → TellsValue (fragments_text value parts) r → IfOk r (λ text. C → BeginsPlain (length (leading (front parts))) text)
 answer_begins value parts C (Ok text) h = λ _. sigils_plain value parts text h
 answer_begins value parts C (Err e) h = tt
 
-pub answer_ends : (value : Expression → Outcome) (parts : List Fragment) (r : Result Text Refusal) → Gives (fragments_text value parts) r → IfOk r (λ text. ends_with nat_eq (back parts) (92 ∷ []) ≡ true → EndsWithBackslash text)
+pub answer_ends : (value : Expression → Outcome) (parts : List Fragment) (r : Result Text Refusal) → TellsValue (fragments_text value parts) r → IfOk r (λ text. ends_with nat_eq (back parts) (92 ∷ []) ≡ true → EndsWithBackslash text)
 answer_ends value parts (Ok text) h = λ b. backslash_ends value parts text h b
 answer_ends value parts (Err e) h = tt

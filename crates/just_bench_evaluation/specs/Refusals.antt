@@ -16,10 +16,10 @@ TellsNone refusal.Memory = Unit {0}
 TellsNone (refusal.Fault fault) = fault.message ≡ no_value
 
 -- A result tells an outcome: the value, or that there is none where there is none; want of memory aside.
-abbrev pub Gives : {A : Type 0} → Option A → Result A Refusal → Type 0
-Gives outcome (Ok value) = outcome ≡ Some value
-Gives outcome (Err refusal.Memory) = Unit {0}
-Gives outcome (Err (refusal.Fault fault)) = (outcome ≡ None) × (fault.message ≡ no_value)
+abbrev pub TellsValue : {A : Type 0} → Option A → Result A Refusal → Type 0
+TellsValue outcome (Ok value) = outcome ≡ Some value
+TellsValue outcome (Err refusal.Memory) = Unit {0}
+TellsValue outcome (Err (refusal.Fault fault)) = (outcome ≡ None) × (fault.message ≡ no_value)
 
 -- a fault of an expression is told as no value, and all else as want of memory
 abbrev pub IsRefusalOf : Error → Refusal → Type 0

@@ -3,11 +3,11 @@ ghost use Rattle.std.specs.Prelude.{◌≡◌, IfOk, map, reverse};
 ghost use Rattle.just_names.specs.Name.{text_of_name};
 ghost use Rattle.just_ast_expressions.specs.declared.scope.Binding.{Binding};
 ghost use Rattle.just_parts.specs.Evaluator.{Binds};
-ghost use Rattle.just_run_layers.specs.Covering.{HasOrder, wanted_in};
+ghost use Rattle.just_run_layers.specs.Covering.{HasEvaluationOrder, wanted_in};
 ghost use Rattle.just_run_layers.specs.Evaluation.{contents_of, in_set, set_of};
 ghost use Rattle.just_bench_values.specs.Constants.{is_asked};
 ghost use Rattle.just_bench_evaluation.specs.Answered as spec;
-ghost use Rattle.just_bench_evaluation.specs.Refusals.{Gives};
+ghost use Rattle.just_bench_evaluation.specs.Refusals.{TellsValue};
 
 use crate::refusals::refusal_of;
 use just_bench_values::constants_of;
@@ -34,9 +34,9 @@ pub fn run_scope<'src>(
     context: &Context<'_, 'src>,
     set: Option<&Shared<HashSet<Number>>>,
 ) -> Result<Scope<'src>, Refusal>
-    requires order { HasOrder context.now }
+    requires order { HasEvaluationOrder context.now }
     ensures binds { IfOk result (Binds context.now.assignments.now (wanted_in context.now (set_of set.entry))) }
-    ensures gives { Gives (spec.run_scope (contents_of context.now) (set_of set.entry)) result }
+    ensures gives { TellsValue (spec.run_scope (contents_of context.now) (set_of set.entry)) result }
 {
     match constants_of(
         alloc,

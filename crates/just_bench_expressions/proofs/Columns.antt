@@ -6,7 +6,7 @@ use Rattle.std.proofs.lemmas.Str.{IsCharBoundary-after_ascii}
 use Rattle.just_bench_expressions.specs.declared.lines.TextLine.{TextLine}
 use Rattle.just_bench_expressions.specs.declared.lexer.Kind.{Kind}
 use Rattle.just_bench_expressions.specs.Lines.{IsLineOf}
-use Rattle.just_bench_expressions.specs.Lexemes.{is_blank, first, lexed_from, lexed_to, past, Takes}
+use Rattle.just_bench_expressions.specs.Lexemes.{is_blank, first, lexed_from, lexed_to, past, TakesLexeme}
 use Rattle.just_bench_expressions.proofs.Lexing.{at_front, boundary_after, byte_of_line, fits_after, last_of_cut, within_after}
 
 -- what was passed and what is left make the whole
@@ -77,7 +77,7 @@ lexed_stops text line start end at bytes cut passed left sharp none =
     let rest = stops_at line end at (subst (λ bs. at < length bs) cut left) (subst (λ bs. is_blank (get_or bs at 0) ≡ false) cut sharp) (subst (λ bs. None ≡ first (drop at bs)) cut none) in
     omega (arith, passed.whole, rest)
 
-goes_past : (bytes : List ℕ) (at : ℕ) (kind : Kind) (size : ℕ) → at < length bytes → is_blank (get_or bytes at 0) ≡ false → Some (kind, size) ≡ first (drop at bytes) → Takes (drop at bytes) size
+goes_past : (bytes : List ℕ) (at : ℕ) (kind : Kind) (size : ℕ) → at < length bytes → is_blank (get_or bytes at 0) ≡ false → Some (kind, size) ≡ first (drop at bytes) → TakesLexeme (drop at bytes) size
     → lexed_from 0 (drop at bytes) ≡ size + lexed_from 0 (drop (at + size) bytes)
 goes_past bytes at kind size left sharp is takes =
     let fits = fits_after bytes at size left takes in
@@ -91,7 +91,7 @@ goes_past bytes at kind size left sharp is takes =
     omega (arith, step, on, rest, takes.some)
 
 pub lexed_past : (text : List ℕ) (line : TextLine) (start end at : ℕ) (bytes : List ℕ) (kind : Kind) (size : ℕ) → IsUtf8 text → IsLineOf text line → bytes ≡ take end line.text
-    → Passed text line start end at → at < length bytes → is_blank (get_or bytes at 0) ≡ false → Some (kind, size) ≡ first (drop at bytes) → Takes (drop at bytes) size
+    → Passed text line start end at → at < length bytes → is_blank (get_or bytes at 0) ≡ false → Some (kind, size) ≡ first (drop at bytes) → TakesLexeme (drop at bytes) size
     → Passed text line start end (at + size)
 lexed_past text line start end at bytes kind size utf8 of cut passed left sharp is takes =
     let last = last_of_cut line.text end bytes at size cut left takes in

@@ -13,7 +13,7 @@ use Rattle.just_ast_expressions.specs.declared.expression.Shape.{Shape, roll-Sha
 use Rattle.just_ast_expressions.specs.declared.expression.Shape.TheOpen.{Shape-F}
 use Rattle.just_ast_expressions.specs.declared.expression.Shape.TheVariants as shape
 use Rattle.just_ast_expressions.specs.Parts.{parts, shape_parts}
-use Rattle.just_bench_expressions.specs.Forms.{listed, form_spelling, as_its_form, spelling, StandsIn, itself, inside}
+use Rattle.just_bench_expressions.specs.Forms.{listed, form_spelling, as_its_form, spelling, IsPartOf, itself, inside}
 
 abbrev pub shape_spelling : Shape → Text
 shape_spelling = fold-Shape Text Text form_spelling as_its_form
@@ -53,9 +53,9 @@ spelling_of-Concatenation lhs rhs = spelling_at (Shape-F.Concatenation lhs rhs) 
 
 -- its text, and that of each expression in it, is its spelling
 abbrev pub IsSpelled : Expression → Type 0
-IsSpelled whole = (e : Expression) → StandsIn whole e → e.text ≡ spelling e
+IsSpelled whole = (e : Expression) → IsPartOf whole e → e.text ≡ spelling e
 
-each_spelled : (whole e : Expression) → StandsIn whole e → whole.text ≡ spelling whole → ((part : Expression) → Contains (parts whole) part → IsSpelled part) → e.text ≡ spelling e
+each_spelled : (whole e : Expression) → IsPartOf whole e → whole.text ≡ spelling whole → ((part : Expression) → Contains (parts whole) part → IsSpelled part) → e.text ≡ spelling e
 each_spelled whole e itself own all = own
 each_spelled whole e (inside {part = part} has stands) own all = all part has e stands
 

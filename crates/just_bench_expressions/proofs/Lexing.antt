@@ -14,7 +14,7 @@ use Rattle.just_bench_expressions.specs.declared.lexer.Kind.{Kind}
 use Rattle.just_bench_expressions.specs.declared.lexer.Lexeme.{Lexeme}
 use Rattle.just_names.specs.Identifier.{is_identifier_start, is_identifier_continue}
 use Rattle.just_bench_expressions.specs.Lines.{IsLineOf}
-use Rattle.just_bench_expressions.specs.Lexemes.{is_blank, is_quote, first, place, before, lexemes_from, lexemes, Takes}
+use Rattle.just_bench_expressions.specs.Lexemes.{is_blank, is_quote, first, place, before, lexemes_from, lexemes, TakesLexeme}
 
 -- a byte of a line as a byte of the text
 pub byte_of_line : (text : List ℕ) (line : TextLine) (i : ℕ) → IsLineOf text line → i < length line.text → get_or text (line.offset + i) 0 ≡ get_or line.text i 0
@@ -44,7 +44,7 @@ name_ends b rest h =
     let same : prefix_len is_identifier_continue rest + 1 - 1 ≡ prefix_len is_identifier_continue rest = omega arith in
     rw same (last_of b rest (prefix_len is_identifier_continue rest) (start_is_ascii b h) (λ k less. part_is_ascii (get_or rest k 0) (prefix_len_passes is_identifier_continue rest k 0 less)))
 
-pub takes_name : (b : ℕ) (rest : List ℕ) → is_identifier_start b ≡ true → Takes (b ∷ rest) (prefix_len is_identifier_continue rest + 1)
+pub takes_name : (b : ℕ) (rest : List ℕ) → is_identifier_start b ≡ true → TakesLexeme (b ∷ rest) (prefix_len is_identifier_continue rest + 1)
 takes_name b rest h = record {
   some = omega arith;
   within = omega (arith, prefix_len-le-length is_identifier_continue rest);
@@ -89,13 +89,13 @@ pub after : (token : ℕ → ℕ → Place) (at : ℕ) (bytes : List ℕ) → at
     → lexemes_from token at 0 (drop at bytes) ≡ before token at (first (drop at bytes)) (λ more. lexemes_from token (at + 1) more (drop (at + 1) bytes))
 after token at bytes left sharp = rw (at_front bytes at left) (from_lexeme token at (get_or bytes at 0) (drop (at + 1) bytes) sharp)
 
-pub within_after : (bytes : List ℕ) (at size : ℕ) → at < length bytes → Takes (drop at bytes) size → at + size ≤ length bytes
+pub within_after : (bytes : List ℕ) (at size : ℕ) → at < length bytes → TakesLexeme (drop at bytes) size → at + size ≤ length bytes
 within_after bytes at size left takes = omega (arith, left, takes.within, length-drop at bytes)
 
-pub fits_after : (bytes : List ℕ) (at size : ℕ) → at < length bytes → Takes (drop at bytes) size → size - 1 ≤ length (drop (at + 1) bytes)
+pub fits_after : (bytes : List ℕ) (at size : ℕ) → at < length bytes → TakesLexeme (drop at bytes) size → size - 1 ≤ length (drop (at + 1) bytes)
 fits_after bytes at size left takes = omega (arith, left, takes.within, takes.some, length-drop at bytes, length-drop (at + 1) bytes)
 
-pub rest_after : (token : ℕ → ℕ → Place) (bytes : List ℕ) (at size : ℕ) → at < length bytes → Takes (drop at bytes) size
+pub rest_after : (token : ℕ → ℕ → Place) (bytes : List ℕ) (at size : ℕ) → at < length bytes → TakesLexeme (drop at bytes) size
     → lexemes_from token (at + 1) (size - 1) (drop (at + 1) bytes) ≡ lexemes_from token (at + size) 0 (drop (at + size) bytes)
 rest_after token bytes at size left takes =
     let same : at + 1 + (size - 1) ≡ at + size = omega (arith, takes.some) in
@@ -104,7 +104,7 @@ rest_after token bytes at size left takes =
 
 pub Lexed-push : (path text : List ℕ) (line : TextLine) (start end : ℕ) (found : List Lexeme) (at : ℕ) (kind : Kind) (size : ℕ) (found' : List Lexeme) (bytes : List ℕ) → bytes ≡ take end line.text
     → Lexed path text line start end found at → at < length bytes → is_blank (get_or bytes at 0) ≡ false
-    → first (drop at bytes) ≡ Some (kind, size) → Takes (drop at bytes) size → found' ≡ found ++ record { kind = kind; token = place path text line at size } ∷ []
+    → first (drop at bytes) ≡ Some (kind, size) → TakesLexeme (drop at bytes) size → found' ≡ found ++ record { kind = kind; token = place path text line at size } ∷ []
     → Lexed path text line start end found' (at + size)
 Lexed-push path text line start end found at kind size found' bytes cut read left sharp is takes pushed =
     let token = place path text line in
@@ -117,7 +117,7 @@ Lexed-push path text line start end found at kind size found' bytes cut read lef
       within = rw (← cut) (within_after bytes at size left takes);
     }
 
-pub last_byte : (bytes : List ℕ) (at size : ℕ) → at < length bytes → Takes (drop at bytes) size → get_or bytes (at + size - 1) 0 < 128
+pub last_byte : (bytes : List ℕ) (at size : ℕ) → at < length bytes → TakesLexeme (drop at bytes) size → get_or bytes (at + size - 1) 0 < 128
 last_byte bytes at size left takes =
     let same : at + (size - 1) ≡ at + size - 1 = omega (arith, takes.some) in
     let it : get_or bytes (at + (size - 1)) 0 < 128 = rw (sym (get_or-drop at bytes (size - 1) 0)) takes.ends in
@@ -126,7 +126,7 @@ last_byte bytes at size left takes =
 short_cut : (end : ℕ) (text : List ℕ) → length (take end text) ≤ end
 short_cut end text = omega (arith, length-take end text)
 
-pub last_of_cut : (text : List ℕ) (end : ℕ) (bytes : List ℕ) (at size : ℕ) → bytes ≡ take end text → at < length bytes → Takes (drop at bytes) size → get_or text (at + size - 1) 0 < 128
+pub last_of_cut : (text : List ℕ) (end : ℕ) (bytes : List ℕ) (at size : ℕ) → bytes ≡ take end text → at < length bytes → TakesLexeme (drop at bytes) size → get_or text (at + size - 1) 0 < 128
 last_of_cut text end bytes at size cut left takes =
     let last : get_or bytes (at + size - 1) 0 < 128 = last_byte bytes at size left takes in
     let short : length bytes ≤ end = omega (arith, short_cut end text, ap length cut) in
@@ -134,7 +134,7 @@ last_of_cut text end bytes at size cut left takes =
     let same : get_or bytes (at + size - 1) 0 ≡ get_or text (at + size - 1) 0 = ap (λ t. get_or t (at + size - 1) 0) cut ∙ get_or-take end text (at + size - 1) 0 below in
     rw (← same) last
 
-pub takes_name_of : (bytes : List ℕ) (b : ℕ) (rest : List ℕ) (n : ℕ) → bytes ≡ b ∷ rest → is_identifier_start b ≡ true → n ≡ prefix_len is_identifier_continue rest → Takes bytes (n + 1)
+pub takes_name_of : (bytes : List ℕ) (b : ℕ) (rest : List ℕ) (n : ℕ) → bytes ≡ b ∷ rest → is_identifier_start b ≡ true → n ≡ prefix_len is_identifier_continue rest → TakesLexeme bytes (n + 1)
 takes_name_of bytes b rest n is starts more = rw (is, more) (takes_name b rest starts)
 
 -- what is known of the first quote
@@ -143,7 +143,7 @@ quote_found bytes n is =
     let found = position-Some is_quote bytes n 0 (sym is) in
     (found.0, grind (arith, found.1), found.2)
 
-pub takes_quoted : (bytes : List ℕ) (b : ℕ) (rest : List ℕ) (n : ℕ) → bytes ≡ b ∷ rest → b ≡ 39 → Some n ≡ position is_quote rest → Takes bytes (n + 2)
+pub takes_quoted : (bytes : List ℕ) (b : ℕ) (rest : List ℕ) (n : ℕ) → bytes ≡ b ∷ rest → b ≡ 39 → Some n ≡ position is_quote rest → TakesLexeme bytes (n + 2)
 takes_quoted bytes b rest n is quote found =
     let at = quote_found rest n found in
     let last : n + 2 - 1 ≡ suc n = omega arith in

@@ -7,7 +7,7 @@ use Rattle.just_bench_expressions.specs.declared.expressions.Found.{Found}
 use Rattle.just_bench_expressions.specs.declared.lexer.Lexeme.{Lexeme}
 use Rattle.just_bench_expressions.specs.declared.lines.TextLine.{TextLine}
 use Rattle.just_bench_expressions.specs.Expressions.{expression}
-use Rattle.just_bench_expressions.specs.Forms.{StandsIn, spelling}
+use Rattle.just_bench_expressions.specs.Forms.{IsPartOf, spelling}
 use Rattle.just_bench_expressions.specs.Lexemes.{HasQuotes, lexemes}
 use Rattle.just_bench_expressions.specs.Lines.{IsLineOf}
 use Rattle.just_bench_expressions.specs.Spelling.{spell}
@@ -24,7 +24,7 @@ spelled_found path text line start end at sums all found of is here =
     subst (IsFoundSpelled at all) here (expression_spelled at sums all sound)
 
 pub texts_spelled : (path text : List ℕ) (line : TextLine) (start end at : ℕ) (sums : Bool) (all : List Lexeme) (found : Found) (e : Expression)
-    → IsLineOf text line → lexemes path text line start end ≡ Some all → expression sums all at ≡ Some found → StandsIn found.made e → e.text ≡ spelling e
+    → IsLineOf text line → lexemes path text line start end ≡ Some all → expression sums all at ≡ Some found → IsPartOf found.made e → e.text ≡ spelling e
 texts_spelled path text line start end at sums all found e of is here = (spelled_found path text line start end at sums all found of is here).0 e
 
 pub lexemes_spelled : (path text : List ℕ) (line : TextLine) (start end at : ℕ) (sums : Bool) (all : List Lexeme) (found : Found)

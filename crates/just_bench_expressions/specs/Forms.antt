@@ -29,7 +29,7 @@ as_its_form expression = expression.shape
 unfoldable pub spelling : Expression → Text
 spelling = fold-Expression Text Text form_spelling as_its_form
 
--- one expression stands in another: it is that one, or stands in a part of it
-pub data StandsIn : Expression → Expression → Type 0 where
-  itself : {whole : Expression} → StandsIn whole whole
-  inside : {whole part e : Expression} → Contains (parts whole) part → StandsIn part e → StandsIn whole e
+-- one expression is part of another: it is that one, or part of a part of it
+pub data IsPartOf : Expression → Expression → Type 0 where
+  itself : {whole : Expression} → IsPartOf whole whole
+  inside : {whole part e : Expression} → Contains (parts whole) part → IsPartOf part e → IsPartOf whole e

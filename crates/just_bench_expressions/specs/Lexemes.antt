@@ -63,7 +63,7 @@ first (b ∷ rest) =
     else mark (double_mark b rest) (single_mark b))
 
 -- a lexeme of this size is there, and begins and ends with an ASCII character
-pub record Takes (bytes : List ℕ) (size : ℕ) : Type 0 where
+pub record TakesLexeme (bytes : List ℕ) (size : ℕ) : Type 0 where
   pub some : 0 < size
   pub within : size ≤ length bytes
   pub begins : slice_index bytes 0 < 128

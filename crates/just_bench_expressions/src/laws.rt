@@ -7,7 +7,7 @@ ghost use Rattle.just_bench_expressions.specs.declared.lines.TextLine.{TextLine}
 ghost use Rattle.just_names.specs.Token.{lexeme as text_of};
 ghost use Rattle.just_bench_expressions.specs.Apart.{StandApart};
 ghost use Rattle.just_bench_expressions.specs.Expressions.{expression};
-ghost use Rattle.just_bench_expressions.specs.Forms.{StandsIn, spelling};
+ghost use Rattle.just_bench_expressions.specs.Forms.{IsPartOf, spelling};
 ghost use Rattle.just_bench_expressions.specs.Lexemes.{lexemes};
 ghost use Rattle.just_bench_expressions.specs.Lines.{IsLineOf};
 ghost use Rattle.just_bench_expressions.specs.Spelling.{spell};
@@ -26,7 +26,7 @@ pub fn lexemes_joined()
 pub fn texts_are_spellings()
     ensures texts { (path text : List ℕ) (line : TextLine) (start end at : ℕ) (sums : Bool) (all : List Lexeme) (found : Found) (e : Expression) →
         IsLineOf text line → lexemes path text line start end ≡ Some all → expression sums all at ≡ Some found →
-        StandsIn found.made e → e.text ≡ spelling e }
+        IsPartOf found.made e → e.text ≡ spelling e }
     ensures lexemes { (path text : List ℕ) (line : TextLine) (start end at : ℕ) (sums : Bool) (all : List Lexeme) (found : Found) →
         IsLineOf text line → lexemes path text line start end ≡ Some all → expression sums all at ≡ Some found →
         spell (slice_range all at found.end) ≡ spelling found.made }

@@ -121,7 +121,7 @@ fn single_mark(byte: u8) -> Option<Kind>
 // The kind of the lexeme at the front, and its length.
 fn first(bytes: &[u8]) -> Option<(Kind, usize)>
     ensures is { result ≡ spec.first bytes.now }
-    ensures takes { IfSome result (λ found. spec.Takes bytes.now found.1) }
+    ensures takes { IfSome result (λ found. spec.TakesLexeme bytes.now found.1) }
 {
     let (byte, rest) = bytes.split_first()?;
     let byte = *byte;

@@ -8,7 +8,7 @@ use Rattle.just_bench_lines.proofs.Fronts.{Front, front, stands_front}
 use Rattle.just_bench_stops.specs.declared.attributes.Seen.{Seen}
 use Rattle.just_bench_stops.specs.declared.halt.Halt.{Halt}
 use Rattle.just_bench_stops.specs.declared.halt.Halt.TheVariants as halt
-use Rattle.just_bench_stops.specs.Marks.{Goes}
+use Rattle.just_bench_stops.specs.Marks.{GoesTo}
 use Rattle.just_bench_stops.specs.Attributes.{Sees, on_seen, properties_end, properties_end_from, property_end, unseen}
 
 -- what was read and what is left make the whole
@@ -52,12 +52,12 @@ properties_push all start at end seen more so_far within sharp is on = record {
 pub properties_stop : (all : List Lexeme) (start at : ℕ) (seen : Seen) → Said all start at seen → at < length all → stands is_paren_close all at ≡ true → Ok at ≡ properties_end all start
 properties_stop all start at seen so_far within stopped = sym (so_far.whole ∙ here_is all at seen true within stopped)
 
-same_fault : (h : Halt) (more : Seen) (it : Result (ℕ × Seen) ℕ) (next : ℕ → Seen → Result ℕ ℕ) (whole : Result ℕ ℕ) → whole ≡ on_seen it next → Sees (Err h) more it → Goes (Err h) whole
+same_fault : (h : Halt) (more : Seen) (it : Result (ℕ × Seen) ℕ) (next : ℕ → Seen → Result ℕ ℕ) (whole : Result ℕ ℕ) → whole ≡ on_seen it next → Sees (Err h) more it → GoesTo (Err h) whole
 same_fault (halt.At at) more it next whole same is = ap (λ r. on_seen r next) is ∙ sym same
 same_fault halt.Memory more it next whole same is = tt
 
 pub properties_fail : (all : List Lexeme) (start at : ℕ) (h : Halt) (seen more : Seen) → Said all start at seen → at < length all → stands is_paren_close all at ≡ false → Sees (Err h) more (property_end all at seen)
-    → Goes (Err h) (properties_end all start)
+    → GoesTo (Err h) (properties_end all start)
 properties_fail all start at h seen more so_far within sharp is =
     same_fault h more (property_end all at seen) (others all at) (properties_end all start) (so_far.whole ∙ here_is all at seen false within sharp) is
 

@@ -5,9 +5,9 @@ use Rattle.just_bench_stops.specs.declared.attributes.Seen.{Seen}
 use Rattle.just_bench_stops.specs.declared.halt.Halt.{Halt}
 use Rattle.just_bench_stops.specs.declared.halt.Halt.TheVariants as halt
 use Rattle.just_bench_stops.specs.Attributes.{Sees, with_after, with_seen}
-use Rattle.just_bench_stops.specs.Marks.{Goes}
+use Rattle.just_bench_stops.specs.Marks.{GoesTo}
 
-pub sees : (r : Result ℕ Halt) (seen : Seen) (it : Result ℕ ℕ) → Goes r it → Sees r seen (with_seen seen it)
+pub sees : (r : Result ℕ Halt) (seen : Seen) (it : Result ℕ ℕ) → GoesTo r it → Sees r seen (with_seen seen it)
 sees (Ok end) seen it is = ap (with_seen seen) is
 sees (Err (halt.At at)) seen it is = ap (with_seen seen) is
 sees (Err halt.Memory) seen it is = tt

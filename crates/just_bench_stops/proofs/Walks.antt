@@ -7,7 +7,7 @@ use Rattle.just_bench_expressions.specs.declared.lexer.Lexeme.{Lexeme}
 use Rattle.just_bench_lines.specs.Places.{GoesOn, stands}
 use Rattle.just_bench_lines.proofs.Fronts.{Front, front, stands_front}
 use Rattle.just_bench_stops.specs.declared.halt.Halt.{Halt}
-use Rattle.just_bench_stops.specs.Marks.{Goes, goes_on}
+use Rattle.just_bench_stops.specs.Marks.{GoesTo, goes_on}
 use Rattle.just_bench_stops.proofs.Fails.{fails, same_fault}
 use Rattle.just_bench_stops.specs.Parts.{ends_there, parts_end, parts_end_from}
 
@@ -56,7 +56,7 @@ module _ (ends : Bool) (stop : Kind → Bool) (part : List Lexeme → ℕ → Re
   pub parts_stop : (start at : ℕ) → Walked ends stop part all start at → at < length all → stands stop all at ≡ true → Ok at ≡ parts_end ends stop part all start
   parts_stop start at so_far within stopped = sym (so_far.whole ∙ here_is at true within stopped)
 
-  pub parts_fail : (start at : ℕ) (h : Halt) → Walked ends stop part all start at → at < length all → stands stop all at ≡ false → Goes (Err h) (part all at) → Goes (Err h) (parts_end ends stop part all start)
+  pub parts_fail : (start at : ℕ) (h : Halt) → Walked ends stop part all start at → at < length all → stands stop all at ≡ false → GoesTo (Err h) (part all at) → GoesTo (Err h) (parts_end ends stop part all start)
   parts_fail start at h so_far within sharp is =
       same_fault h (goes_on (part all at) (λ end. parts_end_from ends stop part all (at + 1) (end - (at + 1)) (drop (at + 1) all))) (parts_end ends stop part all start)
       (sym (so_far.whole ∙ here_is at false within sharp)) (fails h (part all at) (λ end. parts_end_from ends stop part all (at + 1) (end - (at + 1)) (drop (at + 1) all)) is)

@@ -34,7 +34,7 @@ abbrev pub path_end : List Lexeme → ℕ → Result ℕ ℕ
 path_end all at = path_end_by all at (path all at)
 
 -- for the private functions: a part ends there, or reading it stops there, or memory was refused
-abbrev pub Goes : Result ℕ Halt → Result ℕ ℕ → Type 0
-Goes (Ok end) it = Ok end ≡ it
-Goes (Err (halt.At at)) it = Err at ≡ it
-Goes (Err halt.Memory) it = Unit {0}
+abbrev pub GoesTo : Result ℕ Halt → Result ℕ ℕ → Type 0
+GoesTo (Ok end) it = Ok end ≡ it
+GoesTo (Err (halt.At at)) it = Err at ≡ it
+GoesTo (Err halt.Memory) it = Unit {0}

@@ -2,7 +2,7 @@
 ghost use Rattle.std.specs.Prelude.{◌≡◌, ◌<◌, ◌≤◌, length, is_some, IfOk};
 ghost use Rattle.just_bench_lines.specs.Attributes.{bare};
 ghost use Rattle.just_bench_lines.specs.Places.{GoesOn};
-ghost use Rattle.just_bench_stops.specs.Marks.{Goes};
+ghost use Rattle.just_bench_stops.specs.Marks.{GoesTo};
 ghost use Rattle.just_bench_stops.specs.Attributes as spec;
 
 use crate::halt::Halt;
@@ -29,7 +29,7 @@ pub struct Seen {
 // The place after the end of an attribute, and of the line with it.
 #[tactic(auto, using(crate::proofs::Fails::fails))]
 fn bracket_end<'src>(lexemes: &[Lexeme<'src>], at: usize) -> Result<usize, Halt>
-    ensures { Goes result (spec.bracket_end lexemes.now at) }
+    ensures { GoesTo result (spec.bracket_end lexemes.now at) }
 {
     let at = mark(lexemes, at, Kind::BracketClose)?;
     line_end(lexemes, at)
@@ -38,7 +38,7 @@ fn bracket_end<'src>(lexemes: &[Lexeme<'src>], at: usize) -> Result<usize, Halt>
 // The place after the end of what stands in parentheses, and of the attribute with it.
 #[tactic(auto, using(crate::proofs::Fails::fails))]
 fn paren_end<'src>(lexemes: &[Lexeme<'src>], at: usize) -> Result<usize, Halt>
-    ensures { Goes result (spec.paren_end lexemes.now at) }
+    ensures { GoesTo result (spec.paren_end lexemes.now at) }
 {
     let at = mark(lexemes, at, Kind::ParenClose)?;
     bracket_end(lexemes, at)
@@ -47,7 +47,7 @@ fn paren_end<'src>(lexemes: &[Lexeme<'src>], at: usize) -> Result<usize, Halt>
 // The place after `=` and a quoted text.
 #[tactic(auto, using(crate::proofs::Fails::fails))]
 fn value<'src>(lexemes: &[Lexeme<'src>], at: usize) -> Result<usize, Halt>
-    ensures is { Goes result (spec.value_end lexemes.now at) }
+    ensures is { GoesTo result (spec.value_end lexemes.now at) }
     ensures further { IfOk result (GoesOn lexemes.now at) }
 {
     let at = mark(lexemes, at, Kind::Equals)?;
@@ -57,7 +57,7 @@ fn value<'src>(lexemes: &[Lexeme<'src>], at: usize) -> Result<usize, Halt>
 // The place after `=` and a quoted text of one character.
 #[tactic(auto, using(crate::proofs::Fails::fails))]
 fn letter<'src>(spelling: &Spelling<'src>, at: usize) -> Result<usize, Halt>
-    ensures is { Goes result (spec.letter_end spelling.now at) }
+    ensures is { GoesTo result (spec.letter_end spelling.now at) }
     ensures further { IfOk result (GoesOn spelling.now at) }
 {
     let at = mark(spelling.as_slice(), at, Kind::Equals)?;
@@ -74,7 +74,7 @@ fn letter<'src>(spelling: &Spelling<'src>, at: usize) -> Result<usize, Halt>
 // The place after `=` and an expression.
 #[tactic(auto, using(crate::proofs::Fails::fails))]
 fn pattern<'src>(spelling: &Spelling<'src>, at: usize) -> Result<usize, Halt>
-    ensures is { Goes result (spec.pattern_end spelling.now at) }
+    ensures is { GoesTo result (spec.pattern_end spelling.now at) }
     ensures further { IfOk result (GoesOn spelling.now at) }
 {
     let at = mark(spelling.as_slice(), at, Kind::Equals)?;
@@ -131,7 +131,7 @@ fn property<'src>(spelling: &Spelling<'src>, at: usize, seen: &mut Seen) -> Resu
 // The place of the `)` after what an attribute says of how its parameter is given.
 #[tactic(auto, using(crate::proofs::Properties::properties_start, crate::proofs::Properties::properties_push, crate::proofs::Properties::properties_stop, crate::proofs::Properties::properties_fail, crate::proofs::Properties::properties_past))]
 fn properties<'src>(spelling: &Spelling<'src>, start: usize) -> Result<usize, Halt>
-    ensures is { Goes result (spec.properties_end spelling.now start) }
+    ensures is { GoesTo result (spec.properties_end spelling.now start) }
     ensures within { IfOk result (λ end. end < length spelling.now) }
 {
     let lexemes = spelling.as_slice();
@@ -154,7 +154,7 @@ fn properties<'src>(spelling: &Spelling<'src>, start: usize) -> Result<usize, Ha
 // The place after the attribute of a parameter, from its name on.
 #[tactic(auto, using(crate::proofs::Fails::fails))]
 fn arg<'src>(spelling: &Spelling<'src>, at: usize) -> Result<usize, Halt>
-    ensures { Goes result (spec.arg_end spelling.now at) }
+    ensures { GoesTo result (spec.arg_end spelling.now at) }
 {
     let lexemes = spelling.as_slice();
     let at = mark(lexemes, at, Kind::Quoted)?;
@@ -166,7 +166,7 @@ fn arg<'src>(spelling: &Spelling<'src>, at: usize) -> Result<usize, Halt>
 // The place after the attribute that this word begins.
 #[tactic(auto, using(crate::proofs::Fails::fails))]
 fn attribute_of<'src>(spelling: &Spelling<'src>, word: &str) -> Result<usize, Halt>
-    ensures { Goes result (spec.attribute_end_by spelling.now word.now) }
+    ensures { GoesTo result (spec.attribute_end_by spelling.now word.now) }
 {
     let lexemes = spelling.as_slice();
     if bare(word).is_some() {
@@ -194,7 +194,7 @@ fn attribute_of<'src>(spelling: &Spelling<'src>, word: &str) -> Result<usize, Ha
 /// The place after the line of an attribute.
 #[tactic(auto, unfolding(crate::specs::Attributes::attribute_end), using(crate::proofs::Fails::fails))]
 pub fn attribute<'src>(spelling: &Spelling<'src>) -> Result<usize, Halt>
-    ensures { Goes result (spec.attribute_end spelling.now) }
+    ensures { GoesTo result (spec.attribute_end spelling.now) }
 {
     let lexemes = spelling.as_slice();
     mark(lexemes, 0, Kind::BracketOpen)?;

@@ -2,7 +2,7 @@
 ghost use Rattle.std.specs.Prelude.{◌≡◌, ◌≤◌, length, is_some, true};
 ghost use Rattle.just_bench_lines.specs.Definitions.{setting};
 ghost use Rattle.just_bench_lines.specs.Meaning.{after_word, is_optional};
-ghost use Rattle.just_bench_stops.specs.Marks.{Goes};
+ghost use Rattle.just_bench_stops.specs.Marks.{GoesTo};
 ghost use Rattle.just_bench_stops.specs.Definitions as spec;
 
 use crate::halt::Halt;
@@ -17,7 +17,7 @@ use just_bench_lines::places::{mark_at, name_at, word_at};
 /// The place after the line of an import.
 #[tactic(auto, using(crate::proofs::Fails::fails))]
 pub fn import<'src>(lexemes: &[Lexeme<'src>]) -> Result<usize, Halt>
-    ensures { Goes result (spec.import_end lexemes.now) }
+    ensures { GoesTo result (spec.import_end lexemes.now) }
 {
     word(lexemes, 0, "import")?;
     let at = after_word(is_optional(lexemes));
@@ -28,7 +28,7 @@ pub fn import<'src>(lexemes: &[Lexeme<'src>]) -> Result<usize, Halt>
 /// The place after the line of a module.
 #[tactic(auto, using(crate::proofs::Fails::fails))]
 pub fn module_line<'src>(lexemes: &[Lexeme<'src>]) -> Result<usize, Halt>
-    ensures { Goes result (spec.module_end lexemes.now) }
+    ensures { GoesTo result (spec.module_end lexemes.now) }
 {
     word(lexemes, 0, "mod")?;
     let at = after_word(is_optional(lexemes));
@@ -44,7 +44,7 @@ pub fn module_line<'src>(lexemes: &[Lexeme<'src>]) -> Result<usize, Halt>
 /// The place after an expression that ends the line.
 #[tactic(auto, using(crate::proofs::Fails::fails))]
 pub fn whole_expression<'src>(spelling: &Spelling<'src>, at: usize) -> Result<usize, Halt>
-    ensures { Goes result (spec.whole_end spelling.now at) }
+    ensures { GoesTo result (spec.whole_end spelling.now at) }
 {
     let at = expression(spelling, at)?;
     line_end(spelling.as_slice(), at)
@@ -53,7 +53,7 @@ pub fn whole_expression<'src>(spelling: &Spelling<'src>, at: usize) -> Result<us
 // The place after what a setting is set to that names a program.
 #[tactic(auto, using(crate::proofs::Fails::fails))]
 fn program<'src>(spelling: &Spelling<'src>) -> Result<usize, Halt>
-    ensures { Goes result (spec.program_end spelling.now) }
+    ensures { GoesTo result (spec.program_end spelling.now) }
 {
     let lexemes = spelling.as_slice();
     let at = mark(lexemes, 2, Kind::Assign)?;
@@ -68,7 +68,7 @@ fn program<'src>(spelling: &Spelling<'src>) -> Result<usize, Halt>
 // The place after `true` or `false`.
 fn truth<'src>(lexemes: &[Lexeme<'src>], at: usize) -> Result<usize, Halt>
     requires { at ≤ length lexemes.now }
-    ensures { Goes result (spec.truth_end lexemes.now at) }
+    ensures { GoesTo result (spec.truth_end lexemes.now at) }
 {
     if word_at(lexemes, at, "true") {
         Ok(at + 1)
@@ -80,7 +80,7 @@ fn truth<'src>(lexemes: &[Lexeme<'src>], at: usize) -> Result<usize, Halt>
 // The place after what a setting is set to that is on or off.
 #[tactic(auto, using(crate::proofs::Fails::fails))]
 fn switch<'src>(lexemes: &[Lexeme<'src>]) -> Result<usize, Halt>
-    ensures { Goes result (spec.switch_end lexemes.now) }
+    ensures { GoesTo result (spec.switch_end lexemes.now) }
 {
     if lexemes.len() == 2 {
         return Ok(2);
@@ -107,7 +107,7 @@ fn is_switch(name: &str) -> bool
 /// The place after the line of a setting.
 #[tactic(auto, using(crate::proofs::Fails::fails))]
 pub fn set<'src>(spelling: &Spelling<'src>) -> Result<usize, Halt>
-    ensures { Goes result (spec.set_end spelling.now) }
+    ensures { GoesTo result (spec.set_end spelling.now) }
 {
     let lexemes = spelling.as_slice();
     word(lexemes, 0, "set")?;
@@ -127,7 +127,7 @@ pub fn set<'src>(spelling: &Spelling<'src>) -> Result<usize, Halt>
 /// The place after the line of a variable that is not exported.
 #[tactic(auto, using(crate::proofs::Fails::fails))]
 pub fn unexport<'src>(lexemes: &[Lexeme<'src>]) -> Result<usize, Halt>
-    ensures { Goes result (spec.unexport_end lexemes.now) }
+    ensures { GoesTo result (spec.unexport_end lexemes.now) }
 {
     let at = word(lexemes, 0, "unexport")?;
     let at = mark(lexemes, at, Kind::Name)?;
@@ -137,7 +137,7 @@ pub fn unexport<'src>(lexemes: &[Lexeme<'src>]) -> Result<usize, Halt>
 /// The place after a variable whose name stands at a place.
 #[tactic(auto, using(crate::proofs::Fails::fails))]
 pub fn assignment_at<'src>(spelling: &Spelling<'src>, at: usize) -> Result<usize, Halt>
-    ensures { Goes result (spec.assignment_end spelling.now at) }
+    ensures { GoesTo result (spec.assignment_end spelling.now at) }
 {
     let lexemes = spelling.as_slice();
     let at = mark(lexemes, at, Kind::Name)?;
@@ -148,7 +148,7 @@ pub fn assignment_at<'src>(spelling: &Spelling<'src>, at: usize) -> Result<usize
 /// The place after a variable behind this word.
 #[tactic(auto, using(crate::proofs::Fails::fails))]
 pub fn assignment_after<'src>(spelling: &Spelling<'src>, before: &str) -> Result<usize, Halt>
-    ensures { Goes result (spec.prefixed_end before.now spelling.now) }
+    ensures { GoesTo result (spec.prefixed_end before.now spelling.now) }
 {
     let at = word(spelling.as_slice(), 0, before)?;
     assignment_at(spelling, at)
@@ -157,7 +157,7 @@ pub fn assignment_after<'src>(spelling: &Spelling<'src>, before: &str) -> Result
 /// The place after the line of a function.
 #[tactic(auto, using(crate::proofs::Fails::fails))]
 pub fn function<'src>(spelling: &Spelling<'src>) -> Result<usize, Halt>
-    ensures { Goes result (spec.function_end spelling.now) }
+    ensures { GoesTo result (spec.function_end spelling.now) }
 {
     let lexemes = spelling.as_slice();
     let at = mark(lexemes, 0, Kind::Name)?;
@@ -170,7 +170,7 @@ pub fn function<'src>(spelling: &Spelling<'src>) -> Result<usize, Halt>
 /// The place after the line of an alias.
 #[tactic(auto, using(crate::proofs::Fails::fails))]
 pub fn alias_line<'src>(spelling: &Spelling<'src>) -> Result<usize, Halt>
-    ensures { Goes result (spec.alias_end spelling.now) }
+    ensures { GoesTo result (spec.alias_end spelling.now) }
 {
     let lexemes = spelling.as_slice();
     let at = word(lexemes, 0, "alias")?;

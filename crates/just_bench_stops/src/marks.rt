@@ -13,7 +13,7 @@ use just_bench_lines::places::{mark_at, word_at};
 
 /// The place after a lexeme of this kind.
 pub fn mark<'src>(lexemes: &[Lexeme<'src>], at: usize, mark: Kind) -> Result<usize, Halt>
-    ensures is { spec.Goes result (spec.mark_end (is_mark mark) lexemes.now at) }
+    ensures is { spec.GoesTo result (spec.mark_end (is_mark mark) lexemes.now at) }
     ensures further { IfOk result (GoesOn lexemes.now at) }
 {
     if mark_at(lexemes, at, mark) {
@@ -26,7 +26,7 @@ pub fn mark<'src>(lexemes: &[Lexeme<'src>], at: usize, mark: Kind) -> Result<usi
 /// The place after this word.
 pub fn word<'src>(lexemes: &[Lexeme<'src>], at: usize, word: &str) -> Result<usize, Halt>
     requires { at ≤ length lexemes.now }
-    ensures is { spec.Goes result (spec.word_end word.now lexemes.now at) }
+    ensures is { spec.GoesTo result (spec.word_end word.now lexemes.now at) }
 {
     if word_at(lexemes, at, word) {
         Ok(at + 1)
@@ -37,7 +37,7 @@ pub fn word<'src>(lexemes: &[Lexeme<'src>], at: usize, word: &str) -> Result<usi
 
 /// The place after a line that ends there.
 pub fn line_end<'src>(lexemes: &[Lexeme<'src>], at: usize) -> Result<usize, Halt>
-    ensures { spec.Goes result (spec.line_end lexemes.now at) }
+    ensures { spec.GoesTo result (spec.line_end lexemes.now at) }
 {
     if at == lexemes.len() {
         Ok(at)
@@ -48,7 +48,7 @@ pub fn line_end<'src>(lexemes: &[Lexeme<'src>], at: usize) -> Result<usize, Halt
 
 // The place after an expression, with its sum or without.
 fn expression_by<'src>(spelling: &Spelling<'src>, at: usize, sums: bool) -> Result<usize, Halt>
-    ensures is { spec.Goes result (expression_end sums spelling.now at) }
+    ensures is { spec.GoesTo result (expression_end sums spelling.now at) }
     ensures further { IfOk result (GoesOn spelling.now at) }
 {
     match expression_end(spelling, at, sums)? {
@@ -59,7 +59,7 @@ fn expression_by<'src>(spelling: &Spelling<'src>, at: usize, sums: bool) -> Resu
 
 /// The place after an expression.
 pub fn expression<'src>(spelling: &Spelling<'src>, at: usize) -> Result<usize, Halt>
-    ensures is { spec.Goes result (expression_end true spelling.now at) }
+    ensures is { spec.GoesTo result (expression_end true spelling.now at) }
     ensures further { IfOk result (GoesOn spelling.now at) }
 {
     expression_by(spelling, at, true)
@@ -67,7 +67,7 @@ pub fn expression<'src>(spelling: &Spelling<'src>, at: usize) -> Result<usize, H
 
 /// The place after an expression that is no sum.
 pub fn operand<'src>(spelling: &Spelling<'src>, at: usize) -> Result<usize, Halt>
-    ensures is { spec.Goes result (expression_end false spelling.now at) }
+    ensures is { spec.GoesTo result (expression_end false spelling.now at) }
     ensures further { IfOk result (GoesOn spelling.now at) }
 {
     expression_by(spelling, at, false)
@@ -75,7 +75,7 @@ pub fn operand<'src>(spelling: &Spelling<'src>, at: usize) -> Result<usize, Halt
 
 /// The place after a path.
 pub fn path<'src>(spelling: &Spelling<'src>, at: usize) -> Result<usize, Halt>
-    ensures is { spec.Goes result (spec.path_end spelling.now at) }
+    ensures is { spec.GoesTo result (spec.path_end spelling.now at) }
     ensures further { IfOk result (GoesOn spelling.now at) }
 {
     let Some((_, end)) = read_path(spelling, at)? else {

@@ -1,7 +1,7 @@
 //! Parts one after another.
 ghost use Rattle.std.specs.Prelude.{◌≡◌, ◌<◌, ◌≤◌, length, if◌then◌else◌, IfOk, false};
 ghost use Rattle.just_bench_lines.specs.Places.{GoesOn, is_mark};
-ghost use Rattle.just_bench_stops.specs.Marks.{Goes};
+ghost use Rattle.just_bench_stops.specs.Marks.{GoesTo};
 ghost use Rattle.just_bench_stops.specs.Parts as spec;
 
 use crate::halt::Halt;
@@ -26,7 +26,7 @@ pub enum Part {
 /// The place after what stands behind a part between parentheses: a comma, behind which another part stands, or nothing
 /// before the `)`.
 pub fn after_part<'src>(lexemes: &[Lexeme<'src>], at: usize) -> Result<usize, Halt>
-    ensures is { Goes result (spec.after_part_end lexemes.now at) }
+    ensures is { GoesTo result (spec.after_part_end lexemes.now at) }
     ensures further { IfOk result (λ end. (at ≤ end) × (end ≤ length lexemes.now)) }
 {
     if mark_at(lexemes, at, Kind::Comma) {
@@ -58,7 +58,7 @@ fn after_sign<'src>(lexemes: &[Lexeme<'src>], at: usize) -> usize
 // The place after a parameter of a recipe.
 #[tactic(auto, using(crate::proofs::Fails::fails))]
 fn parameter<'src>(spelling: &Spelling<'src>, at: usize) -> Result<usize, Halt>
-    ensures is { Goes result (spec.parameter_end spelling.now at) }
+    ensures is { GoesTo result (spec.parameter_end spelling.now at) }
     ensures further { IfOk result (GoesOn spelling.now at) }
 {
     let lexemes = spelling.as_slice();
@@ -72,7 +72,7 @@ fn parameter<'src>(spelling: &Spelling<'src>, at: usize) -> Result<usize, Halt>
 
 // The place after an argument of a dependency.
 fn argument<'src>(spelling: &Spelling<'src>, at: usize) -> Result<usize, Halt>
-    ensures is { Goes result (spec.argument_end spelling.now at) }
+    ensures is { GoesTo result (spec.argument_end spelling.now at) }
     ensures further { IfOk result (GoesOn spelling.now at) }
 {
     if mark_at(spelling.as_slice(), at, Kind::Star) {
@@ -85,7 +85,7 @@ fn argument<'src>(spelling: &Spelling<'src>, at: usize) -> Result<usize, Halt>
 // The place after a parameter of a function and what stands behind it.
 #[tactic(auto, using(crate::proofs::Fails::fails))]
 fn function_parameter<'src>(lexemes: &[Lexeme<'src>], at: usize) -> Result<usize, Halt>
-    ensures is { Goes result (spec.function_parameter_end lexemes.now at) }
+    ensures is { GoesTo result (spec.function_parameter_end lexemes.now at) }
     ensures further { IfOk result (GoesOn lexemes.now at) }
 {
     let end = mark(lexemes, at, Kind::Name)?;
@@ -95,7 +95,7 @@ fn function_parameter<'src>(lexemes: &[Lexeme<'src>], at: usize) -> Result<usize
 // The place after a part.
 #[tactic(auto, unfolding(crate::specs::Parts::part_end))]
 fn part_end<'src>(spelling: &Spelling<'src>, at: usize, part: Part) -> Result<usize, Halt>
-    ensures is { Goes result (spec.part_end part spelling.now at) }
+    ensures is { GoesTo result (spec.part_end part spelling.now at) }
     ensures further { IfOk result (GoesOn spelling.now at) }
 {
     match part {
@@ -114,7 +114,7 @@ pub fn parts<'src>(
     part: Part,
     stop: Kind,
 ) -> Result<usize, Halt>
-    ensures is { Goes result (spec.parts_end false (is_mark stop) (spec.part_end part) spelling.now start) }
+    ensures is { GoesTo result (spec.parts_end false (is_mark stop) (spec.part_end part) spelling.now start) }
     ensures further { IfOk result (λ end. (start ≤ end) × (end < length spelling.now)) }
 {
     let lexemes = spelling.as_slice();
@@ -131,7 +131,7 @@ pub fn parts<'src>(
 // The place after a dependency whose `(` stands at a place.
 #[tactic(auto, using(crate::proofs::Fails::fails))]
 fn given<'src>(spelling: &Spelling<'src>, at: usize) -> Result<usize, Halt>
-    ensures is { Goes result (spec.given_end spelling.now at) }
+    ensures is { GoesTo result (spec.given_end spelling.now at) }
     ensures further { IfOk result (GoesOn spelling.now at) }
 {
     let inner = mark(spelling.as_slice(), at, Kind::ParenOpen)?;
@@ -143,7 +143,7 @@ fn given<'src>(spelling: &Spelling<'src>, at: usize) -> Result<usize, Halt>
 // The place after a dependency whose `(` stands at a place, behind a star.
 #[tactic(auto, using(crate::proofs::Fails::fails))]
 fn starred<'src>(spelling: &Spelling<'src>, at: usize) -> Result<usize, Halt>
-    ensures is { Goes result (spec.starred_end spelling.now at) }
+    ensures is { GoesTo result (spec.starred_end spelling.now at) }
     ensures further { IfOk result (GoesOn spelling.now at) }
 {
     let inner = mark(spelling.as_slice(), at, Kind::ParenOpen)?;
@@ -156,7 +156,7 @@ fn starred<'src>(spelling: &Spelling<'src>, at: usize) -> Result<usize, Halt>
 /// The place after a dependency.
 #[tactic(auto, unfolding(crate::specs::Parts::dependency_end))]
 pub fn dependency<'src>(spelling: &Spelling<'src>, at: usize) -> Result<usize, Halt>
-    ensures is { Goes result (spec.dependency_end spelling.now at) }
+    ensures is { GoesTo result (spec.dependency_end spelling.now at) }
     ensures further { IfOk result (GoesOn spelling.now at) }
 {
     let lexemes = spelling.as_slice();
@@ -173,7 +173,7 @@ pub fn dependency<'src>(spelling: &Spelling<'src>, at: usize) -> Result<usize, H
 #[tactic(auto, using(crate::proofs::Walks::parts_start, crate::proofs::Walks::parts_push, crate::proofs::Walks::parts_stop, crate::proofs::Walks::parts_fail, crate::proofs::Walks::parts_past))]
 pub fn dependencies<'src>(spelling: &Spelling<'src>, start: usize) -> Result<usize, Halt>
     requires { start ≤ length spelling.now }
-    ensures is { Goes result (spec.dependencies_end spelling.now start) }
+    ensures is { GoesTo result (spec.dependencies_end spelling.now start) }
     ensures within { IfOk result (λ end. end ≤ length spelling.now) }
 {
     let lexemes = spelling.as_slice();

@@ -1,7 +1,7 @@
 //! Where reading of a line stops, and what stands there.
 ghost use Rattle.std.specs.Prelude.{◌≡◌, IfOk};
 ghost use Rattle.just_bench_expressions.specs.Lines.{IsLineOf};
-ghost use Rattle.just_bench_stops.specs.Marks.{Goes};
+ghost use Rattle.just_bench_stops.specs.Marks.{GoesTo};
 ghost use Rattle.just_bench_stops.specs.Stops as spec;
 
 use crate::attributes::attribute;
@@ -47,7 +47,7 @@ pub enum Form {
 // The place after a line of a kind.
 #[tactic(auto, unfolding(crate::specs::Stops::form_end))]
 fn form_end<'src>(spelling: &Spelling<'src>, form: Form) -> Result<usize, Halt>
-    ensures { Goes result (spec.form_end form spelling.now) }
+    ensures { GoesTo result (spec.form_end form spelling.now) }
 {
     match form {
         Form::Import => import(spelling.as_slice()),

@@ -6,7 +6,7 @@ use Rattle.std.proofs.lemmas.List.{drop-set-lt, take_more_set}
 use Rattle.std.proofs.lemmas.List.Elements.{All-head, All-tail}
 use Rattle.just_parts.specs.Items.{Item}
 use Rattle.just_parts.specs.Syntax.{AreRising, item_numbers, numbers}
-use Rattle.just_bench_syntax.specs.Numbering.{AreNumbered, counted}
+use Rattle.just_bench_syntax.specs.Numbering.{AreNumberedInTurn, counted}
 
 rising_lower : (low middle : ℕ) (ns : List ℕ) (high : ℕ) → low ≤ middle → AreRising middle ns high → AreRising low ns high
 rising_lower low middle [] high h rising = omega (arith, h, rising)
@@ -16,13 +16,13 @@ rising_append : (low : ℕ) (ns : List ℕ) (middle : ℕ) (ms : List ℕ) (high
 rising_append low [] middle ms high before after = rising_lower low middle ms high before after
 rising_append low (n ∷ ns) middle ms high before after = (before.0, rising_append (n + 1) ns middle ms high before.1 after)
 
-pub numbered_none : (low : ℕ) → AreNumbered low [] low
+pub numbered_none : (low : ℕ) → AreNumberedInTurn low [] low
 numbered_none low = record { rising = omega arith; fits = λ h. h }
 
-pub numbered_one : (low n high : ℕ) → n ≡ low → high ≡ low + 1 → high ≤ 2 ^ 64 → AreNumbered low (n ∷ []) high
+pub numbered_one : (low n high : ℕ) → n ≡ low → high ≡ low + 1 → high ≤ 2 ^ 64 → AreNumberedInTurn low (n ∷ []) high
 numbered_one low n high is more fits = record { rising = (omega (arith, is), omega (arith, is, more)); fits = λ _. fits }
 
-numbered_append : (low : ℕ) (ns : List ℕ) (middle : ℕ) (ms : List ℕ) (high : ℕ) → AreNumbered low ns middle → AreNumbered middle ms high → AreNumbered low (ns ++ ms) high
+numbered_append : (low : ℕ) (ns : List ℕ) (middle : ℕ) (ms : List ℕ) (high : ℕ) → AreNumberedInTurn low ns middle → AreNumberedInTurn middle ms high → AreNumberedInTurn low (ns ++ ms) high
 numbered_append low ns middle ms high before after = record {
   rising = rising_append low ns middle ms high before.rising after.rising;
   fits = λ h. after.fits (before.fits h);
@@ -30,8 +30,8 @@ numbered_append low ns middle ms high before after = record {
 
 -- one more element of a list is written with its numbers
 pub numbered_next : {A : Type 0} (given : List A → List ℕ) → ((xs ys : List A) → given (xs ++ ys) ≡ given xs ++ given ys)
-    → (low : ℕ) (xs : List A) (k : ℕ) (x : A) (middle high : ℕ) → k < length xs → AreNumbered low (given (take k xs)) middle → AreNumbered middle (given (x ∷ [])) high
-    → AreNumbered low (given (take (k + 1) (set xs k x))) high
+    → (low : ℕ) (xs : List A) (k : ℕ) (x : A) (middle high : ℕ) → k < length xs → AreNumberedInTurn low (given (take k xs)) middle → AreNumberedInTurn middle (given (x ∷ [])) high
+    → AreNumberedInTurn low (given (take (k + 1) (set xs k x))) high
 numbered_next given joined low xs k x middle high within before after =
     rw (take_more_set xs k x within, joined (take k xs) (x ∷ [])) (numbered_append low (given (take k xs)) middle (given (x ∷ [])) high before after)
 

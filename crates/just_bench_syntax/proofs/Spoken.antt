@@ -13,7 +13,7 @@ use Rattle.just_names.specs.Token.{lexeme}
 use Rattle.just_names.proofs.Indexing.{texts_apart}
 use Rattle.just_ast_definitions.specs.declared.parameter.Parameter.{Parameter}
 use Rattle.just_bench_syntax.specs.declared.recipe.Spoken.{Spoken}
-use Rattle.just_bench_syntax.specs.Recipe.{AreFound, fits, is_parameter, misfit, misfit_from, names_of, options_of, spoken_of}
+use Rattle.just_bench_syntax.specs.Recipe.{AreFoundNames, fits, is_parameter, misfit, misfit_from, names_of, options_of, spoken_of}
 
 -- nothing is said of a name that no attribute has among the first
 pub none_said : (ss : List Spoken) (name : Text) (n : ℕ) → ((k : ℕ) → k < n → name_at (spoken_of ss) k ≢ name) → options_of (take n ss) name ≡ None
@@ -132,7 +132,7 @@ name_spoken (x ∷ ss) (suc n) s within is = name_spoken ss n s (omega (arith, w
 pub all_fit : (ps : List Parameter) (ss : List Spoken) (found : Text → Option ℕ) (n : ℕ) → Looked ps ss found n → length ss ≡ n → misfit ps ss ≡ None
 all_fit ps ss found n looked count = looked.so_far ∙ ap (misfit_from ps (take n ss)) (drop_all n ss (omega (arith, count)))
 
-pub all_found : (ps : List Parameter) (ss : List Spoken) (found : Text → Option ℕ) (n : ℕ) → Looked ps ss found n → length ss ≡ n → AreFound ss found
+pub all_found : (ps : List Parameter) (ss : List Spoken) (found : Text → Option ℕ) (n : ℕ) → Looked ps ss found n → length ss ≡ n → AreFoundNames ss found
 all_found ps ss found n looked count name =
     let size : n ≡ length (spoken_of ss) = sym (length-map ss (λ (s : Spoken). s.options.parameter) ∙ count) in
     said_by ss name (found name) (λ i j l m. looked.different i j l (omega (arith, m, size))) (subst (λ k. IsLast (spoken_of ss) k name (found name)) size (looked.index name))

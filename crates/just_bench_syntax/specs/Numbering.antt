@@ -6,7 +6,7 @@ use Rattle.just_errors.specs.declared.error.Error.{Error}
 use Rattle.just_errors.specs.declared.error.Error.TheVariants as error
 
 -- numbers that were given one after another
-pub record AreNumbered (low : ℕ) (given : List ℕ) (high : ℕ) : Type 0 where
+pub record AreNumberedInTurn (low : ℕ) (given : List ℕ) (high : ℕ) : Type 0 where
   pub rising : AreRising low given high
   pub fits : low ≤ 2 ^ 64 → high ≤ 2 ^ 64
 

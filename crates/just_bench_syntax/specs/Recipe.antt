@@ -31,8 +31,8 @@ abbrev pub spoken_of : List Spoken → List (List ℕ)
 spoken_of = map (λ (s : Spoken). s.options.parameter)
 
 -- for the private functions: what is said of each name stands at the place that is found for it
-abbrev pub AreFound : List Spoken → (List ℕ → Option ℕ) → Type 0
-AreFound spoken place = (name : List ℕ) → options_of spoken name ≡ option_and_then (slice_get spoken) (place name)
+abbrev pub AreFoundNames : List Spoken → (List ℕ → Option ℕ) → Type 0
+AreFoundNames spoken place = (name : List ℕ) → options_of spoken name ≡ option_and_then (slice_get spoken) (place name)
 
 -- an attribute fits that speaks of a parameter, of which none before it does
 abbrev pub fits : List Parameter → List Spoken → List ℕ → Bool

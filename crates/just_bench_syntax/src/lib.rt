@@ -2,8 +2,8 @@
 #![tactic(auto)]
 
 mod conflicts;
+mod item_numbers;
 pub mod items;
-mod numbering;
 pub mod plain_syntax;
 mod recipe;
 mod shebangs;

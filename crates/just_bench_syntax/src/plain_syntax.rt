@@ -8,8 +8,8 @@ ghost use Rattle.just_bench_syntax.specs.Refusal.{IsInLine, RefusesLine};
 ghost use Rattle.just_bench_syntax.specs.Answers as spec;
 
 use crate::conflicts::conflicts;
+use crate::item_numbers::number_items;
 use crate::items::{Items, read_items};
-use crate::numbering::number_items;
 use crate::{shebangs, sigils};
 use just_bench_expressions::lines::lines;
 use just_data::Sequence;

@@ -50,7 +50,7 @@ fn places_of<'a, 'src>(
     spoken: &'a [Spoken<'src>],
 ) -> Result<Result<Places<'a>, Token<'src>>, AllocError>
     ensures fit { IfOk result (λ told. IfOk told (λ _. spec.misfit parameters.now spoken.now ≡ None)) }
-    ensures places { IfOk result (λ told. IfOk told (λ found. spec.AreFound spoken.now (get bytes_eq found))) }
+    ensures places { IfOk result (λ told. IfOk told (λ found. spec.AreFoundNames spoken.now (get bytes_eq found))) }
     ensures misfit { IfOk result (λ told. IfErr told (λ at. spec.misfit parameters.now spoken.now ≡ Some at)) }
 {
     let names = names_of(alloc, parameters)?;
@@ -76,7 +76,7 @@ fn options_of<'a, 'b, 'src>(
     places: &Places<'b>,
     name: &str,
 ) -> Option<&'a Spoken<'src>>
-    requires { spec.AreFound spoken.now (get bytes_eq places.now) }
+    requires { spec.AreFoundNames spoken.now (get bytes_eq places.now) }
     ensures { option_copied result ≡ spec.options_of spoken.now name.now }
 {
     match places.get(&BorrowedText::new(name)) {
@@ -91,7 +91,7 @@ fn give_options<'a, 'src>(
     spoken: &[Spoken<'src>],
     places: &Places<'a>,
 ) -> Result<(), AllocError>
-    requires { spec.AreFound spoken.now (get bytes_eq places.now) }
+    requires { spec.AreFoundNames spoken.now (get bytes_eq places.now) }
     ensures { OnOk result (parameter.new ≡ spec.with_options spoken.now parameter.old) }
 {
     let Some(found) = options_of(spoken, places, parameter.name.lexeme()) else {
@@ -110,7 +110,7 @@ fn give_all<'a, 'src>(
     spoken: &[Spoken<'src>],
     places: &Places<'a>,
 ) -> Result<(), AllocError>
-    requires { spec.AreFound spoken.now (get bytes_eq places.now) }
+    requires { spec.AreFoundNames spoken.now (get bytes_eq places.now) }
     ensures { OnOk result (parameters.new.items ≡ map (spec.with_options spoken.now) parameters.old.items) }
 {
     for place in 0..parameters.len() {

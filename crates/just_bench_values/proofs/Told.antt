@@ -6,7 +6,7 @@ use Rattle.just_errors.specs.declared.error.Error.{Error}
 use Rattle.just_errors.specs.declared.error.Error.TheVariants as error
 use Rattle.just_parts.specs.Evaluator.{FaultsAt}
 use Rattle.just_parts.specs.Told.{IsToldIn}
-use Rattle.just_bench_values.specs.Lookup.{Tells}
+use Rattle.just_bench_values.specs.Lookup.{TellsOutcome}
 
 -- what is told at one of some places is told at one of more
 module _ {P Q : Place → Type 0} (within : (place : Place) → P place → Q place) where
@@ -32,25 +32,25 @@ module _ {A B : Type 0} {o : Option A} {p : Option B} (none : o ≡ None → p �
   faults_on (error.Invocation e) told = absurd told
   faults_on (error.Run e) told = absurd told
 
-  pub tells_fault : {P Q : Place → Type 0} (within : (place : Place) → P place → Q place) (e : Error) → FaultsAt o e → IsToldIn P e → (r : Result B Error) → r ≡ Err e → Tells p Q r
-  tells_fault {P} {Q} within e fault told r is = subst (Tells p Q) (sym is) (faults_on e fault, told_on within e told)
+  pub tells_fault : {P Q : Place → Type 0} (within : (place : Place) → P place → Q place) (e : Error) → FaultsAt o e → IsToldIn P e → (r : Result B Error) → r ≡ Err e → TellsOutcome p Q r
+  tells_fault {P} {Q} within e fault told r is = subst (TellsOutcome p Q) (sym is) (faults_on e fault, told_on within e told)
 
 module _ {A : Type 0} {o p : Option A} (same : p ≡ o) where
   -- what tells an outcome tells an equal one, at more places
-  pub tells_as : (P Q : Place → Type 0) (within : (place : Place) → P place → Q place) (r : Result A Error) → Tells o P r → Tells p Q r
+  pub tells_as : (P Q : Place → Type 0) (within : (place : Place) → P place → Q place) (r : Result A Error) → TellsOutcome o P r → TellsOutcome p Q r
   tells_as P Q within (Ok value) told = same ∙ told
   tells_as P Q within (Err e) told = (subst (λ x. FaultsAt x e) (sym same) told.0, told_on within e told.1)
 
 -- what is told of a value, of a fault and of its place
 module _ {A : Type 0} (o : Option A) (P : Place → Type 0) where
-  pub told_value : (r : Result A Error) → Tells o P r → IfOk r (λ value. o ≡ Some value)
+  pub told_value : (r : Result A Error) → TellsOutcome o P r → IfOk r (λ value. o ≡ Some value)
   told_value (Ok value) told = told
   told_value (Err e) told = tt
 
-  pub told_fault : (r : Result A Error) → Tells o P r → IfErr r (FaultsAt o)
+  pub told_fault : (r : Result A Error) → TellsOutcome o P r → IfErr r (FaultsAt o)
   told_fault (Ok value) told = tt
   told_fault (Err e) told = told.0
 
-  pub told_place : (r : Result A Error) → Tells o P r → IfErr r (IsToldIn P)
+  pub told_place : (r : Result A Error) → TellsOutcome o P r → IfErr r (IsToldIn P)
   told_place (Ok value) told = tt
   told_place (Err e) told = told.1

@@ -84,9 +84,9 @@ IsToldAt place message (error.Invocation e) = ⊥
 IsToldAt place message (error.Run e) = ⊥
 
 -- A result tells an outcome: the value, or a fault at one of these places where there is none; want of memory aside.
-abbrev pub Tells : {A : Type 0} → Option A → (Place → Type 0) → Result A Error → Type 0
-Tells outcome places (Ok value) = outcome ≡ Some value
-Tells outcome places (Err e) = FaultsAt outcome e × IsToldIn places e
+abbrev pub TellsOutcome : {A : Type 0} → Option A → (Place → Type 0) → Result A Error → Type 0
+TellsOutcome outcome places (Ok value) = outcome ≡ Some value
+TellsOutcome outcome places (Err e) = FaultsAt outcome e × IsToldIn places e
 
 -- a place of a call: that of its name, or one of the body that is called
 pub data IsPlaceOfCall (functions : List (Text × FunctionDefinition)) (name : Name) (place : Place) : Type 0 where

@@ -12,7 +12,7 @@ ghost use Rattle.just_parts.specs.Told.{IsPlaceIn, IsPlaceInOne, IsToldIn, assig
 ghost use Rattle.just_table.specs.Entries.{IsKeyed, IsSorted, find, put_all};
 ghost use Rattle.just_bench_values.specs.Constants as spec;
 ghost use Rattle.just_bench_values.specs.Constants.{Adds};
-ghost use Rattle.just_bench_values.specs.Lookup.{Tells, constant_name, table_values};
+ghost use Rattle.just_bench_values.specs.Lookup.{TellsOutcome, constant_name, table_values};
 ghost use Rattle.just_bench_values.specs.Values as value;
 
 use crate::lookup::{Constant, Constants};
@@ -32,7 +32,7 @@ fn value_of<'src>(
     assignment: &Assignment<'src>,
 ) -> Result<Sequence<Text>, Error<'src>>
     ensures { let value = value.value_of (functions_by_name functions.now) (table_values constants.now) assignment.now.value in
-        Tells (spec.overridden_or (get same_number overrides.now assignment.now.number) value) (IsPlaceIn functions.now assignment.now.value) result }
+        TellsOutcome (spec.overridden_or (get same_number overrides.now assignment.now.number) value) (IsPlaceIn functions.now assignment.now.value) result }
 {
     match overrides.get(&assignment.number) {
         Some(text) => Ok(one(alloc, text)?),

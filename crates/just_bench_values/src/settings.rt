@@ -2,7 +2,7 @@
 ghost use Rattle.std.specs.Prelude.{◌≡◌, IfOk, IfErr, OnOk, Some, flat_map, map};
 ghost use Rattle.just_parts.specs.Evaluator.{FaultsAt, bare_set, functions_by_name, interpreter_expressions, set_expressions, setting_expressions, values_of};
 ghost use Rattle.just_parts.specs.Told.{IsPlaceIn, IsPlaceInOne, IsToldIn};
-ghost use Rattle.just_bench_values.specs.Lookup.{Tells};
+ghost use Rattle.just_bench_values.specs.Lookup.{TellsOutcome};
 ghost use Rattle.just_bench_values.specs.Settings as spec;
 ghost use Rattle.just_bench_values.specs.Settings.{HasPrograms};
 ghost use Rattle.just_bench_values.specs.Values as value;
@@ -24,7 +24,7 @@ fn text<'src>(
     expression: &Expression<'src>,
 ) -> Result<Text, Error<'src>>
     ensures { let values = value.value_of (functions_by_name functions.now) (values_of constants.now) in
-        Tells (spec.text_with values expression.now) (IsPlaceIn functions.now expression.now) result }
+        TellsOutcome (spec.text_with values expression.now) (IsPlaceIn functions.now expression.now) result }
 {
     let value = evaluate_among(alloc, functions, Constants::Listed(constants), expression)?;
     Ok(joined(alloc, value.as_slice())?)
@@ -38,7 +38,7 @@ fn texts<'src>(
     expressions: &[Expression<'src>],
 ) -> Result<Sequence<Text>, Error<'src>>
     ensures { let values = value.value_of (functions_by_name functions.now) (values_of constants.now) in
-        Tells (value.all_of (map (spec.text_with values) expressions.now)) (IsPlaceInOne functions.now expressions.now) result }
+        TellsOutcome (value.all_of (map (spec.text_with values) expressions.now)) (IsPlaceInOne functions.now expressions.now) result }
 {
     let mut texts = Sequence::new(alloc);
     for expression in expressions {
@@ -56,7 +56,7 @@ fn interpreter<'src>(
     interpreter: &Interpreter<Expression<'src>>,
 ) -> Result<Interpreter<Text>, Error<'src>>
     ensures { let values = value.value_of (functions_by_name functions.now) (values_of constants.now) in
-        Tells (spec.interpreter_with values interpreter.now) (IsPlaceInOne functions.now (interpreter_expressions interpreter.now)) result }
+        TellsOutcome (spec.interpreter_with values interpreter.now) (IsPlaceInOne functions.now (interpreter_expressions interpreter.now)) result }
 {
     let command = text(alloc, functions, constants, &interpreter.command)?;
     let arguments = texts(

@@ -3,7 +3,7 @@ ghost use Rattle.std.specs.Prelude.{◌≡◌, [], ◌∷◌, Some, IfOk, IfErr}
 ghost use Rattle.just_parts.specs.Evaluator.{FaultsAt, functions_by_name, values_of};
 ghost use Rattle.just_parts.specs.Told.{IsPlaceIn, IsToldIn};
 ghost use Rattle.just_ast_references.specs.Numbers.{bare};
-ghost use Rattle.just_bench_values.specs.Lookup.{Tells, constant_values, functions_in, local_values};
+ghost use Rattle.just_bench_values.specs.Lookup.{TellsOutcome, constant_values, functions_in, local_values};
 ghost use Rattle.just_bench_values.specs.Tasks.{IsPlaceOfOne, outcome_of};
 ghost use Rattle.just_bench_values.specs.Values as spec;
 
@@ -34,7 +34,7 @@ fn run<'a, 'src>(
     among: &Among<'a, 'src>,
     state: State<'a, 'src>,
 ) -> Result<Sink, Error<'src>>
-    ensures { Tells (outcome_of among.now state.entry) (IsPlaceOfOne among.now state.entry.tasks) result }
+    ensures { TellsOutcome (outcome_of among.now state.entry) (IsPlaceOfOne among.now state.entry.tasks) result }
 {
     let mut state = state;
     while let Some(task) = state.tasks.pop() {
@@ -53,7 +53,7 @@ pub fn evaluate_in<'a, 'src>(
 ) -> Result<Sequence<Text>, Error<'src>>
     ensures { let among = functions_in functions.entry in
         let value = spec.value_with 64 (functions_by_name among) (constant_values constants.entry) (local_values locals.entry) expression.now in
-        Tells value (IsPlaceIn among expression.now) result }
+        TellsOutcome value (IsPlaceIn among expression.now) result }
 {
     let among = Among {
         functions,
@@ -79,7 +79,7 @@ pub fn evaluate_among<'a, 'src>(
     expression: &Expression<'src>,
 ) -> Result<Sequence<Text>, Error<'src>>
     ensures { let value = spec.value_of (functions_by_name functions.now) (constant_values constants.entry) expression.now in
-        Tells value (IsPlaceIn functions.now expression.now) result }
+        TellsOutcome value (IsPlaceIn functions.now expression.now) result }
 {
     let known = Functions {
         table: functions,

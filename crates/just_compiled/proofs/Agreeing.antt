@@ -20,7 +20,7 @@ use Rattle.just_module_recipes.specs.Linked.{name_of_disabled}
 use Rattle.just_module_recipes.specs.Links.{Around, found_by}
 use Rattle.just_module_tree.specs.Modules.{Forest, HasModule, Module, after_it, first, in_it}
 use Rattle.just_module_tree.specs.Standing as trees
-use Rattle.just_module_tree.specs.Standing.{DisabledBy, EndsWell, Place, StandsIn, absent_in, find_inner, follow, kept_in, leads, name_in}
+use Rattle.just_module_tree.specs.Standing.{DisabledBy, EndsWell, WalkEnd, StandsInTree, absent_in, find_inner, follow, kept_in, leads, name_in}
 use Rattle.just_names.specs.Index.{AreDifferent}
 use Rattle.just_names.specs.Name.{text_of_name}
 use Rattle.just_names.specs.Texts.{Text}
@@ -94,23 +94,23 @@ module _ (given : Given) (asts : AstKey → Option Ast) (loaded : List Text) (bu
       (found_one m inside j (find_inner x after) (module_named x js) (bytes_eq (name_in m) x) shows (found x rest (λ n under has. says n under (after_it has))))
 
   -- places and ends of walks
-  pub data Agree : Place → End → Type 0 where
+  pub data Agree : WalkEnd → End → Type 0 where
     both_inside : {n : Module} {below : Forest} {c : Justfile} → Shows n below c → Agree (trees.In n below) (walks.Inside c)
     both_absent : {names : List Text} → Agree (trees.Missing names) (walks.Absent names)
     both_nowhere : Agree trees.Nowhere walks.Nowhere
 
   -- both lead nowhere, or neither does
-  pub nowhere_end : {p : Place} {e : End} → Agree p e → p ≡ trees.Nowhere → e ≡ walks.Nowhere
+  pub nowhere_end : {p : WalkEnd} {e : End} → Agree p e → p ≡ trees.Nowhere → e ≡ walks.Nowhere
   nowhere_end (both_inside shows) q = cc
   nowhere_end both_absent q = cc
   nowhere_end both_nowhere q = refl
 
-  pub nowhere_place : {p : Place} {e : End} → Agree p e → e ≡ walks.Nowhere → p ≡ trees.Nowhere
+  pub nowhere_place : {p : WalkEnd} {e : End} → Agree p e → e ≡ walks.Nowhere → p ≡ trees.Nowhere
   nowhere_place (both_inside shows) q = cc
   nowhere_place both_absent q = cc
   nowhere_place both_nowhere q = refl
 
-  agree_beyond : (x : Text) (c : Justfile) {p : Place} {e : End} → Agree p e → Agree (trees.beyond x p) (walks.beyond x c e)
+  agree_beyond : (x : Text) (c : Justfile) {p : WalkEnd} {e : End} → Agree p e → Agree (trees.beyond x p) (walks.beyond x c e)
   agree_beyond x c (both_inside shows) = both_inside shows
   agree_beyond x c both_absent = both_absent
   agree_beyond x c both_nowhere = both_nowhere
@@ -121,7 +121,7 @@ module _ (given : Given) (asts : AstKey → Option Ast) (loaded : List Text) (bu
 
   agree_found : (xs : List Text) (x : Text) (own : List Text) (absent : List (Text × Text)) → is_some (find x absent) ≡ list_any (λ a. bytes_eq a x) own → {o : Option (Module × Forest)} {q : Option Justfile} → FoundAs o q
       → ((n : Module) (below : Forest) (c : Justfile) → Shows n below c → Agree (trees.beyond x (follow xs n below)) (walks.beyond x c (end_of (out-Justfile c).absent_modules (out-Justfile c).modules xs)))
-      → Agree (elim o as (λ _. Place) [ Some n ↦ trees.beyond x (follow xs n.0 n.1) | None ↦ if list_any (λ a. bytes_eq a x) own then trees.Missing (x ∷ []) else trees.Nowhere ])
+      → Agree (elim o as (λ _. WalkEnd) [ Some n ↦ trees.beyond x (follow xs n.0 n.1) | None ↦ if list_any (λ a. bytes_eq a x) own then trees.Missing (x ∷ []) else trees.Nowhere ])
       (elim q as (λ _. End) [ Some j ↦ walks.beyond x j (end_of (out-Justfile j).absent_modules (out-Justfile j).modules xs) | None ↦ if is_some (find x absent) then walks.Absent (x ∷ []) else walks.Nowhere ])
   agree_found xs x own absent e (both {n} {below} {c} shows) next = next n below c shows
   agree_found xs x own absent e neither next =
@@ -142,11 +142,11 @@ module _ (given : Given) (asts : AstKey → Option Ast) (loaded : List Text) (bu
       (λ name. ap (module_named name) shows.is.modules ∙ found_sorted name shows.inner shows.is.different) shows.compiled shows.inner_says))
 
   -- through a place a recipe is disabled by the module without a file at a path
-  abbrev pub Through : Place → Text → Modulepath → Type 0
+  abbrev pub Through : WalkEnd → Text → Modulepath → Type 0
   Through place last path = ((names : List Text) × (place ≡ trees.Missing names) × (path ≡ path_along names)) ⊎ ((n : Module) × (below : Forest) × (place ≡ trees.In n below) × DisabledBy n below last path)
 
   -- a number is that of the recipe of a name, which stands in the module at a place
-  pub record IsNumbered (place : Place) (last : Text) (number : Number) : Type 0 where
+  pub record IsNumbered (place : WalkEnd) (last : Text) (number : Number) : Type 0 where
     pub n : Module
     pub below : Forest
     pub c : Justfile
@@ -156,16 +156,16 @@ module _ (given : Given) (asts : AstKey → Option Ast) (loaded : List Text) (bu
     pub there : i < length (kept_by given asts n)
     pub named : name_of (recipe_at (kept_by given asts n) i) ≡ last
     pub number_is : (recipe_at (kept_by given asts n) i).number ≡ number
-    pub stands : StandsIn n below last
+    pub stands : StandsInTree n below last
 
   -- these paths are those of the modules without a file that disable what a name means at a place
-  pub record IsBarred (place : Place) (last : Text) (paths : List Modulepath) : Type 0 where
+  pub record IsBarred (place : WalkEnd) (last : Text) (paths : List Modulepath) : Type 0 where
     pub some : paths ≢ []
     pub ends : EndsWell place last
     pub each : (path : Modulepath) → Contains paths path ↔ Through place last path
 
   -- what the look-up at the end of a walk means
-  abbrev pub Resolves : Place → Text → Option (Resolution Number) → Type 0
+  abbrev pub Resolves : WalkEnd → Text → Option (Resolution Number) → Type 0
   Resolves place last (Some (resolution.Resolved number)) = IsNumbered place last number
   Resolves place last (Some (resolution.Disabled set)) = IsBarred place last set.keys
   Resolves place last None = EndsWell place last → ⊥
@@ -185,7 +185,7 @@ module _ (given : Given) (asts : AstKey → Option Ast) (loaded : List Text) (bu
   looked n below c shows last (Some key) q f g =
       let is = shows.is in
       let k = key_found is.standing last key (ap (find last) (sym is.fields.recipes_are) ∙ f) in
-      let s = from_standing (StandsIn n below) is.stand k.0 k.1 in
+      let s = from_standing (StandsInTree n below) is.stand k.0 k.1 in
       let at = contained k.0 (kept_by given asts n) s.0 in
       let read : recipe_at (kept_by given asts n) at.0 ≡ k.0 = get_or_default (kept_by given asts n) at.0 no_recipe k.0 at.1 ∙ at.2 in
       record {
@@ -198,7 +198,7 @@ module _ (given : Given) (asts : AstKey → Option Ast) (loaded : List Text) (bu
         there = at.1;
         named = ap (λ (r : Recipe UnresolvedDependency). name_of r) read ∙ k.3;
         number_is = ap (λ (r : Recipe UnresolvedDependency). r.number) read ∙ ap (λ (x : RecipeKey). x.number) (sym k.2);
-        stands = subst (StandsIn n below) k.3 s.1;
+        stands = subst (StandsInTree n below) k.3 s.1;
       }
   looked n below c shows last None (Some d) f g =
       let is = shows.is in
@@ -227,11 +227,11 @@ module _ (given : Given) (asts : AstKey → Option Ast) (loaded : List Text) (bu
       let r = from_map name_of last (kept_by given asts n) (is_in last (names_of (kept_by given asts n)) (subst (λ ns. Contains ns last) (sym (same_names (kept_by given asts n) (kept_in n) shows.says.kept)) ends)) in
       elim (disabled_or (DisabledBy n below) is.disabled.1 r.0 r.1) [
         | inl stands ↦
-            not_found name_of_key last [] (map key_of is.standing) (ap (find last) (sym is.fields.recipes_are) ∙ f) (key_of r.0) (in_map key_of r.0 is.standing (into_standing (StandsIn n below) is.stand r.0 r.1 stands)) (sym r.2)
+            not_found name_of_key last [] (map key_of is.standing) (ap (find last) (sym is.fields.recipes_are) ∙ f) (key_of r.0) (in_map key_of r.0 is.standing (into_standing (StandsInTree n below) is.stand r.0 r.1 stands)) (sym r.2)
         | inr d ↦ not_found name_of_disabled last [] is.disabled.0 (ap (find last) (sym is.disabled.2) ∙ g) d.0 d.1 (d.2 ∙ sym r.2)
       ]
 
-  pub resolves : {place : Place} {end : End} → Agree place end → (last : Text) → Resolves place last (recipe_by end [] [] last)
+  pub resolves : {place : WalkEnd} {end : End} → Agree place end → (last : Text) → Resolves place last (recipe_by end [] [] last)
   resolves (both_inside {n} {below} {c} shows) last = looked n below c shows last (find last (out-Justfile c).recipes) (find last (out-Justfile c).disabled_recipes) refl refl
   resolves (both_absent {names = own}) last = record {
     some = λ e. cc;

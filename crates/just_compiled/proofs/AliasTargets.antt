@@ -12,11 +12,11 @@ use Rattle.just_justfile.specs.declared.justfile.RecipeKey.{RecipeKey}
 use Rattle.just_justfile.specs.declared.resolution.Resolution.{Resolution}
 use Rattle.just_justfile.specs.declared.resolution.Resolution.TheVariants as resolution
 use Rattle.just_module_contents.specs.Recipes.{name_of, no_recipe, recipe_at}
-use Rattle.just_module_contents.specs.Rules.{Aliases, unknown_target}
+use Rattle.just_module_contents.specs.Rules.{BreaksAliasTargets, unknown_target}
 use Rattle.just_module_contents.specs.Standing.{AreStanding}
 use Rattle.just_module_recipes.specs.Aliased.{Targets, UnknownTargets, as_module, as_recipe, meant, targets}
 use Rattle.just_module_recipes.specs.Linked.{HasDisabled, name_of_disabled}
-use Rattle.just_module_recipes.specs.Links.{Around, Disables, HasTarget, Leads, Names, Stands, far, near, to_module, to_recipe}
+use Rattle.just_module_recipes.specs.Links.{Around, Disables, HasTarget, PathLeadsTo, IsNameOf, Stands, far, near, to_module, to_recipe}
 use Rattle.just_module_recipes.specs.declared.aliases.Meaning.{Meaning}
 use Rattle.just_module_recipes.proofs.Aliasing.{means_none}
 use Rattle.just_names.specs.Name.{text_of_name}
@@ -109,7 +109,7 @@ module _ (recipes standing : List (Recipe UnresolvedDependency)) (it : Around) (
     abbrev last : Text
     last = text_of_name path.last
 
-    near_lost : (j : ℕ) → Names recipes path j → recipe_by before (recipe_table standing) disabled last ≡ None → ⊥
+    near_lost : (j : ℕ) → IsNameOf recipes path j → recipe_by before (recipe_table standing) disabled last ≡ None → ⊥
     near_lost j names e =
         let one = one_text path.front path.last (name_of (recipe_at recipes j)) names.named in
         let here : before ≡ Here = ap (λ front. end_of it.absent it.modules (map text_of_name front)) one.0 in
@@ -128,7 +128,7 @@ module _ (recipes standing : List (Recipe UnresolvedDependency)) (it : Around) (
         go (to_recipe (near j names)) none lost = near_lost j names lost
         go (to_recipe (far some)) none lost = some (through before (recipe_table standing) disabled last lost)
 
-    near_or : (front : List Name) → path.front ≡ front → recipe_by before (recipe_table standing) disabled last ≢ None → Leads recipes it path
+    near_or : (front : List Name) → path.front ≡ front → recipe_by before (recipe_table standing) disabled last ≢ None → PathLeadsTo recipes it path
     near_or [] e some = elim (from_tables last (find last (recipe_table standing)) (find last disabled) refl refl) [
       | inl none ↦ absurd (some (
           ap (λ front. recipe_by (end_of it.absent it.modules (map text_of_name front)) (recipe_table standing) disabled last) e
@@ -153,8 +153,8 @@ module _ (recipes standing : List (Recipe UnresolvedDependency)) (it : Around) (
         go None e None f = refl
 
   -- so the same targets are unknown
-  pub unknown_on : (aliases : List (Alias Namepath)) (c : Cause) → UnknownTargets t aliases c → Aliases (HasTarget recipes it) aliases c
+  pub unknown_on : (aliases : List (Alias Namepath)) (c : Cause) → UnknownTargets t aliases c → BreaksAliasTargets (HasTarget recipes it) aliases c
   unknown_on aliases _ (unknown_target {alias} there lost) = unknown_target there (nothing_meant alias.target (means_none (meant t alias.target) lost))
 
-  pub targets_known : (aliases : List (Alias Namepath)) → Keeps (UnknownTargets t aliases) → Keeps (Aliases (HasTarget recipes it) aliases)
+  pub targets_known : (aliases : List (Alias Namepath)) → Keeps (UnknownTargets t aliases) → Keeps (BreaksAliasTargets (HasTarget recipes it) aliases)
   targets_known aliases kept _ (unknown_target {alias} there lost) = kept _ (unknown_target there (λ some. some (meant_nothing alias.target lost)))

@@ -19,7 +19,7 @@ use Rattle.just_module_recipes.specs.declared.aliases.Meaning.TheVariants as mea
 use Rattle.just_module_recipes.proofs.Aliasing.{one_added}
 use Rattle.just_module_tree.specs.Modules.{Forest, Module}
 use Rattle.just_module_tree.specs.Standing as trees
-use Rattle.just_module_tree.specs.Standing.{DisabledBy, EndsWell, HasTarget, Place, absent_in, find_inner, follow, kept_in, leads, to_module, to_recipe}
+use Rattle.just_module_tree.specs.Standing.{DisabledBy, EndsWell, HasTargetInTree, WalkEnd, absent_in, find_inner, follow, kept_in, leads, to_module, to_recipe}
 use Rattle.just_names.specs.Name.{text_of_name, texts_of_path}
 use Rattle.just_names.specs.Texts.{Text}
 use Rattle.just_names.specs.declared.name.Name.{Name}
@@ -41,13 +41,13 @@ use Rattle.just_compiled.proofs.NamedModules.{found_sorted}
 use Rattle.just_compiled.proofs.RecipeKeys.{found_among}
 
 -- where names lead, by the module of the first
-abbrev next_place : List Text → Text → Bool → Option (Module × Forest) → Place
-next_place names x absent found = elim found as (λ _. Place) [
+abbrev next_place : List Text → Text → Bool → Option (Module × Forest) → WalkEnd
+next_place names x absent found = elim found as (λ _. WalkEnd) [
   | Some n ↦ trees.beyond x (follow names n.0 n.1)
   | None ↦ if absent then trees.Missing (x ∷ []) else trees.Nowhere
 ]
 
-beyond_missing : (x : Text) (names : List Text) (p q : Place) → ((ns : List Text) → p ≡ trees.Missing ns → q ≡ trees.Missing ns) → trees.beyond x p ≡ trees.Missing names → trees.beyond x q ≡ trees.Missing names
+beyond_missing : (x : Text) (names : List Text) (p q : WalkEnd) → ((ns : List Text) → p ≡ trees.Missing ns → q ≡ trees.Missing ns) → trees.beyond x p ≡ trees.Missing names → trees.beyond x q ≡ trees.Missing names
 beyond_missing x names (trees.In n below) q ih e = cc
 beyond_missing x names (trees.Missing ns) q ih e = ap (trees.beyond x) (ih ns refl) ∙ e
 beyond_missing x names trees.Nowhere q ih e = cc
@@ -116,7 +116,7 @@ module_led walks.Nowhere r path f = absurd (not_module r path f)
 
 module _ (given : Given) (asts : AstKey → Option Ast) (loaded : List Text) (built : List Built) where
   -- what the look-up at the end of a walk means, whatever the tables are where it began
-  by_tables : {place : Place} {end : End} → Agree given asts loaded built place end → (last : Text) (j : Justfile) → Resolves given asts loaded built place last (recipe_by end (out-Justfile j).recipes (out-Justfile j).disabled_recipes last)
+  by_tables : {place : WalkEnd} {end : End} → Agree given asts loaded built place end → (last : Text) (j : Justfile) → Resolves given asts loaded built place last (recipe_by end (out-Justfile j).recipes (out-Justfile j).disabled_recipes last)
   by_tables (both_inside shows) last j = resolves given asts loaded built (both_inside shows) last
   by_tables (both_absent {names}) last j = resolves given asts loaded built (both_absent {names = names}) last
   by_tables both_nowhere last j = resolves given asts loaded built both_nowhere last
@@ -149,7 +149,7 @@ module _ (given : Given) (asts : AstKey → Option Ast) (loaded : List Text) (bu
       Means = MeansIn given asts m inside path
 
       -- what is disabled is so in the module to which the names before the last lead
-      barred : (place : Place) (it : Meaning) (r : Option (Resolution Number)) → leads m inside path ≡ place → follow (texts_of_path path) m inside ≡ trees.Nowhere → Resolves given asts loaded built place last r → as_recipe r ≡ Some it → Means it
+      barred : (place : WalkEnd) (it : Meaning) (r : Option (Resolution Number)) → leads m inside path ≡ place → follow (texts_of_path path) m inside ≡ trees.Nowhere → Resolves given asts loaded built place last r → as_recipe r ≡ Some it → Means it
       barred place it None p nowhere res f = cc
       barred place it (Some (resolution.Resolved number)) p nowhere res f =
           let same : meaning.Recipe number ≡ it = some_same f in
@@ -172,7 +172,7 @@ module _ (given : Given) (asts : AstKey → Option Ast) (loaded : List Text) (bu
           absurd (cc)
       barred trees.Nowhere it (Some (resolution.Disabled set)) p nowhere res f = absurd res.ends
 
-      by_agree : {place : Place} {end : End} → Agree given asts loaded built place end → follow (texts_of_path path) m inside ≡ place → (it : Meaning) → meaning_at end (as_recipe (recipe_from j path)) ≡ Some it → Means it
+      by_agree : {place : WalkEnd} {end : End} → Agree given asts loaded built place end → follow (texts_of_path path) m inside ≡ place → (it : Meaning) → meaning_at end (as_recipe (recipe_from j path)) ≡ Some it → Means it
       by_agree (both_inside {n} {below} {c} there) p it f = subst Means (some_same f) (subst (λ x. Means (meaning.Module x)) (sym there.is.path) (a_module n below p))
       by_agree (both_absent {names}) p it f = subst Means (some_same f) (missing names p)
       by_agree both_nowhere p it f = barred (leads m inside path) it (recipe_from j path) refl p (looks_up path.front path.last) f
@@ -186,14 +186,14 @@ module _ (given : Given) (asts : AstKey → Option Ast) (loaded : List Text) (bu
       lost_recipe (Some (resolution.Resolved number)) res f = cc
       lost_recipe (Some (resolution.Disabled set)) res f = cc
 
-      lost_by : {place : Place} {end : End} → Agree given asts loaded built place end → follow (texts_of_path path) m inside ≡ place → meaning_at end (as_recipe (recipe_from j path)) ≡ None → HasTarget m inside path → ⊥
+      lost_by : {place : WalkEnd} {end : End} → Agree given asts loaded built place end → follow (texts_of_path path) m inside ≡ place → meaning_at end (as_recipe (recipe_from j path)) ≡ None → HasTargetInTree m inside path → ⊥
       lost_by (both_inside there) p f target = cc
       lost_by both_absent p f target = cc
       lost_by both_nowhere p f (to_module some) = some p
       lost_by both_nowhere p f (to_recipe l) = lost_recipe (recipe_from j path) (looks_up path.front path.last) f l
 
       -- and where it means nothing it leads nowhere
-      pub means_nothing : meant (targets_of j) path ≡ None → HasTarget m inside path → ⊥
+      pub means_nothing : meant (targets_of j) path ≡ None → HasTargetInTree m inside path → ⊥
       means_nothing e = lost_by (all_agree path.front path.last) refl (sym (meant_by (targets_of j) path) ∙ e)
 
     -- an alias of a recipe stands for one that is held

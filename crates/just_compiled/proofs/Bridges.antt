@@ -20,7 +20,7 @@ use Rattle.just_module_contents.specs.Groups.{Group, OfAliases, OfBodies, OfCons
 use Rattle.just_module_contents.specs.Known.{known_of}
 use Rattle.just_module_contents.specs.RecipeValues.{BreaksRecipe, IsPastLimits}
 use Rattle.just_module_contents.specs.Standing.{InOne, of_standing}
-use Rattle.just_module_contents.specs.Recipes.{DependsOn, dependency_paths, least_of, most_of, name_of, named_paths, names_of, no_recipe, recipe_at}
+use Rattle.just_module_contents.specs.Recipes.{DependsOnRecipe, dependency_paths, least_of, most_of, name_of, named_paths, names_of, no_recipe, recipe_at}
 use Rattle.just_module_contents.specs.Resolved.{number_at}
 use Rattle.just_module_contents.specs.Rules.{DependsBy, StandsWith, unknown_target}
 use Rattle.just_module_contents.proofs.Keeping.{kept_different}
@@ -29,10 +29,10 @@ use Rattle.just_module_headers.proofs.Holding.{some_value}
 use Rattle.just_module_headers.proofs.Alike.{Outline, at as outline_at, defaults_alike, dependencies_alike, depends_by_alike, limits_alike, many, name as name_at, rules_alike, same_names}
 use Rattle.just_module_recipes.specs.Linked.{AreSettled, HasNumber, of_far as far_number, of_near as near_number}
 use Rattle.just_module_recipes.specs.Links as links
-use Rattle.just_module_recipes.specs.Links.{Around, BreaksLinks, Disables, HasParameters, Leads, Names, Stands, Takes, by_recipe, by_walk, far, found_by, links_by, near, of_far, of_near, told_by}
+use Rattle.just_module_recipes.specs.Links.{Around, BreaksLinks, Disables, HasParameters, PathLeadsTo, IsNameOf, Stands, Takes, by_recipe, by_walk, far, found_by, links_by, near, of_far, of_near, told_by}
 use Rattle.just_module_tree.specs.Modules.{Forest, Module, contents_of}
 use Rattle.just_module_tree.specs.Standing as trees
-use Rattle.just_module_tree.specs.Standing.{BreaksDependencies, DisabledBy, EndsWell, HasTarget, LeadsSomewhere, Place, StandsIn, TakesIn, by_disabled, follow, kept_in, leads, links_in, through_absent, to_module, to_recipe, told_in}
+use Rattle.just_module_tree.specs.Standing.{BreaksDependencies, DisabledBy, EndsWell, HasTargetInTree, LeadsSomewhere, WalkEnd, StandsInTree, TakesIn, by_disabled, follow, kept_in, leads, links_in, through_absent, to_module, to_recipe, told_in}
 use Rattle.just_names.specs.Name.{text_of_name, texts_of_path}
 use Rattle.just_names.specs.Texts.{Text}
 use Rattle.just_names.specs.declared.name.Name.{Name}
@@ -98,7 +98,7 @@ module _ (rs : List (Recipe UnresolvedDependency)) where
       contained (name_of r) (names_of rs) (in_map name_of r rs (is_in r rs (i, h, get_or_default rs i r no_recipe h)))
 
   -- what depends on a path of one name depends on that
-  on_name : (name : Text) (d : Namepath) → d.front ≡ [] → DependsBy rs name d → Contains (names_of rs) (text_of_name d.last) → DependsOn rs name (text_of_name d.last)
+  on_name : (name : Text) (d : Namepath) → d.front ≡ [] → DependsBy rs name d → Contains (names_of rs) (text_of_name d.last) → DependsOnRecipe rs name (text_of_name d.last)
   on_name name d one by c =
       let to = place_named (text_of_name d.last) c in
       let r = recipe_at rs by.from in
@@ -116,7 +116,7 @@ module _ (rs : List (Recipe UnresolvedDependency)) where
       }
 
   -- and what depends on a name depends on a path of one name
-  by_name_of : (name other : Text) → DependsOn rs name other → (d : Namepath) × DependsBy rs name d × (d.front ≡ []) × (text_of_name d.last ≡ other)
+  by_name_of : (name other : Text) → DependsOnRecipe rs name other → (d : Namepath) × DependsBy rs name d × (d.front ≡ []) × (text_of_name d.last ≡ other)
   by_name_of name other on =
       let r = recipe_at rs on.from in
       let names = subst (In (name_of (recipe_at rs on.to) ∷ [])) (paths_read r.dependencies) (is_in (name_of (recipe_at rs on.to) ∷ []) (dependency_paths r) on.step.names) in
@@ -149,7 +149,7 @@ module _ (given : Given) (asts : AstKey → Option Ast) (loaded : List Text) (bu
   aliases_by m = (said m).aliases
 
   -- what disables through a place is among the paths of the look-up
-  barred_of : (place : Place) (last : Text) (path : Modulepath) (r : Option (Resolution Number)) → Resolves given asts loaded built place last r → Through given asts loaded built place last path
+  barred_of : (place : WalkEnd) (last : Text) (path : Modulepath) (r : Option (Resolution Number)) → Resolves given asts loaded built place last r → Through given asts loaded built place last path
       → (set : BTreeSet Modulepath) × (r ≡ Some (resolution.Disabled set)) × Contains set.keys path
   barred_of place last path (Some (resolution.Resolved number)) r (inl (names, e, is)) = let f : trees.In r.n r.below ≡ trees.Missing names = sym r.leads_in ∙ e in absurd (cc)
   barred_of place last path (Some (resolution.Resolved number)) r (inr (k, b, e, d)) =
@@ -161,7 +161,7 @@ module _ (given : Given) (asts : AstKey → Option Ast) (loaded : List Text) (bu
   barred_of place last path None r (inl (names, e, is)) = absurd (r (subst (λ p. EndsWell p last) (sym e) tt))
   barred_of place last path None r (inr (k, b, e, d)) = absurd (r (subst (λ p. EndsWell p last) (sym e) (disabled_named d)))
 
-  ends_of : (place : Place) (last : Text) (r : Option (Resolution Number)) → Resolves given asts loaded built place last r → r ≢ None → EndsWell place last
+  ends_of : (place : WalkEnd) (last : Text) (r : Option (Resolution Number)) → Resolves given asts loaded built place last r → r ≢ None → EndsWell place last
   ends_of place last (Some (resolution.Resolved number)) r ne =
       subst (λ p. EndsWell p last) (sym r.leads_in)
       (subst (λ ns. Contains ns last) (same_names (kept r.n) (kept_in r.n) r.shows.says.kept) (subst (Contains (names_of (kept r.n))) r.named (name_there (kept r.n) r.i r.there)))
@@ -199,10 +199,10 @@ module _ (given : Given) (asts : AstKey → Option Ast) (loaded : List Text) (bu
   ]
 
   -- the recipe that is made of one that a number means
-  module _ (place : Place) (last : Text) (number : Number) (r : IsNumbered given asts loaded built place last number) where
+  module _ (place : WalkEnd) (last : Text) (number : Number) (r : IsNumbered given asts loaded built place last number) where
     pub made_there : (x : Recipe Dependency) × (find_number (recipes_of_all built) number.0 ≡ Some x) × TakesAsMany x (recipe_at (kept r.n) r.i)
     made_there =
-        let x = r.shows.is.linked.each r.i r.there (subst (StandsIn r.n r.below) (sym r.named) r.stands) in
+        let x = r.shows.is.linked.each r.i r.there (subst (StandsInTree r.n r.below) (sym r.named) r.stands) in
         let read : slice_get (kept r.n) r.i ≡ Some (recipe_at (kept r.n) r.i) = slice_get_read (kept r.n) (length (kept r.n)) r.i (recipe_at (kept r.n) r.i) refl r.there (get_or_default (kept r.n) r.i no_recipe (recipe_at (kept r.n) r.i) r.there) in
         let same : number_at (kept r.n) r.i ≡ number.0 = number_read (kept r.n) r.i (recipe_at (kept r.n) r.i) read ∙ ap (λ (k : Number). k.0) r.number_is in
         let value = value_by given asts r.n r.shows.is.evaluated.it in
@@ -246,11 +246,11 @@ module _ (given : Given) (asts : AstKey → Option Ast) (loaded : List Text) (bu
         by_disabled d.0 m inside (by_tree m meets.says name d.0 d.1) (stays m inside d.0 d.2) (subst (λ t. DisabledBy m inside t path) (sym d.3) (to_tree rest))
 
     -- so the same recipes stand
-    pub stands_on : (name : Text) → Stands (kept m) it name → StandsIn m inside name
+    pub stands_on : (name : Text) → Stands (kept m) it name → StandsInTree m inside name
     stands_on name stands path d = stands path (from_tree d it meets)
 
     -- and the other way
-    pub stands_back : (name : Text) → StandsIn m inside name → Stands (kept m) it name
+    pub stands_back : (name : Text) → StandsInTree m inside name → Stands (kept m) it name
     stands_back name stands path d = stands path (to_tree d)
 
     named_on : (name : Text) → Contains (names_of (kept m)) name → Contains (names_of (kept_in m)) name
@@ -259,13 +259,13 @@ module _ (given : Given) (asts : AstKey → Option Ast) (loaded : List Text) (bu
     named_back : (name : Text) → Contains (names_of (kept_in m)) name → Contains (names_of (kept m)) name
     named_back name c = subst (λ ns. Contains ns name) (sym (same_names (kept m) (kept_in m) meets.says.kept)) c
 
-    leads_on : (d : Namepath) → Leads (kept m) it d → LeadsSomewhere m inside d
+    leads_on : (d : Namepath) → PathLeadsTo (kept m) it d → LeadsSomewhere m inside d
     leads_on d (near j names) =
         let one = one_text d.front d.last (name_of (recipe_at (kept m) j)) names.named in
         subst (λ p. EndsWell p (text_of_name d.last)) (sym (stays m inside d one.0)) (named_on (text_of_name d.last) (subst (Contains (names_of (kept m))) (sym one.1) (name_there (kept m) j names.there)))
     leads_on d (far ne) = ends_of (leads m inside d) (text_of_name d.last) (found_by it d) (means d (found_by it d) refl ne) ne
 
-    leads_back : (d : Namepath) → LeadsSomewhere m inside d → Leads (kept m) it d
+    leads_back : (d : Namepath) → LeadsSomewhere m inside d → PathLeadsTo (kept m) it d
     leads_back d l = elim (far_or given asts loaded built m inside it meets d) [
       | inl z ↦ (
           let at = place_named (kept m) (text_of_name d.last) (named_back (text_of_name d.last) (subst (λ p. EndsWell p (text_of_name d.last)) (stays m inside d z) l)) in
@@ -274,7 +274,7 @@ module _ (given : Given) (asts : AstKey → Option Ast) (loaded : List Text) (bu
     ]
 
     -- what is held under the number of a recipe that it means has its parameters
-    module _ (place : Place) (last : Text) (number : Number) (r : IsNumbered given asts loaded built place last number) where
+    module _ (place : WalkEnd) (last : Text) (number : Number) (r : IsNumbered given asts loaded built place last number) where
       made_held : (q : Recipe Dependency) → find_number it.held number.0 ≡ Some q → TakesAsMany q (recipe_at (kept r.n) r.i)
       made_held q e =
           let x = made_there place last number r in
@@ -322,7 +322,7 @@ module _ (given : Given) (asts : AstKey → Option Ast) (loaded : List Text) (bu
     -- what is broken of dependencies over the compiled modules is broken in the tree
     pub dependencies_on : (lists : Bool) (c : Cause) → BreaksLinks lists (kept m) it c → BreaksDependencies lists m inside c
     dependencies_on lists =
-        dependencies_alike (kept m) (kept_in m) meets.says.kept (Leads (kept m) it) (LeadsSomewhere m inside) (Stands (kept m) it) (StandsIn m inside) (Takes lists (kept m) it) (TakesIn lists m inside) leads_back stands_on (λ d s. takes_on lists d.recipe) lists
+        dependencies_alike (kept m) (kept_in m) meets.says.kept (PathLeadsTo (kept m) it) (LeadsSomewhere m inside) (Stands (kept m) it) (StandsInTree m inside) (Takes lists (kept m) it) (TakesIn lists m inside) leads_back stands_on (λ d s. takes_on lists d.recipe) lists
 
     -- all names of a path lead alike
     names_agree : (front : List Name) (last : Name) → Agree given asts loaded built (follow (map text_of_name (front ++ last ∷ [])) m inside) (end_of it.absent it.modules (map text_of_name (front ++ last ∷ [])))
@@ -330,11 +330,11 @@ module _ (given : Given) (asts : AstKey → Option Ast) (loaded : List Text) (bu
     names_agree (x ∷ front) last = around_agree (map text_of_name (front ++ last ∷ [])) (text_of_name x)
 
     -- the target of an alias leads to what it leads to in the tree
-    target_on : (d : Namepath) → links.HasTarget (kept m) it d → HasTarget m inside d
+    target_on : (d : Namepath) → links.HasTarget (kept m) it d → HasTargetInTree m inside d
     target_on d (links.to_module some) = to_module (λ p. module_somewhere d it.absent it.modules some (nowhere_end given asts loaded built (names_agree d.front d.last) p))
     target_on d (links.to_recipe l) = to_recipe (leads_on d l)
 
-    target_back : (d : Namepath) → HasTarget m inside d → links.HasTarget (kept m) it d
+    target_back : (d : Namepath) → HasTargetInTree m inside d → links.HasTarget (kept m) it d
     target_back d (to_module some) = elim (somewhere_or d it.absent it.modules (λ e. some (nowhere_place given asts loaded built (names_agree d.front d.last) e))) [
       | inl some_module ↦ links.to_module some_module
       | inr beyond ↦ links.to_recipe (far beyond)
@@ -342,19 +342,19 @@ module _ (given : Given) (asts : AstKey → Option Ast) (loaded : List Text) (bu
     target_back d (to_recipe l) = links.to_recipe (leads_back d l)
 
     -- so is what is broken of aliases and of defaults
-    pub aliases_on : (c : Cause) → links.BreaksAliases (kept m) (aliases_by m) it c → trees.BreaksAliases m inside c
+    pub aliases_on : (c : Cause) → links.BreaksAliases (kept m) (aliases_by m) it c → trees.BreaksAliasesInTree m inside c
     aliases_on _ (links.of_targets (unknown_target {alias} there lost)) =
         trees.of_targets (unknown_target (subst (λ xs. Contains xs alias) meets.says.aliases there) (λ h. lost (target_back alias.target h)))
     aliases_on _ (links.of_defaults {c} ss are b) =
-        let k = standing_alike (Stands (kept m) it) (StandsIn m inside) stands_on stands_back are (kept_in m) meets.says.kept in
+        let k = standing_alike (Stands (kept m) it) (StandsInTree m inside) stands_on stands_back are (kept_in m) meets.says.kept in
         trees.of_defaults k.0 k.1 (defaults_alike ss k.0 k.2 c b)
 
     -- and the other way
-    pub aliases_back : (c : Cause) → trees.BreaksAliases m inside c → links.BreaksAliases (kept m) (aliases_by m) it c
+    pub aliases_back : (c : Cause) → trees.BreaksAliasesInTree m inside c → links.BreaksAliases (kept m) (aliases_by m) it c
     aliases_back _ (trees.of_targets (unknown_target {alias} there lost)) =
         links.of_targets (unknown_target (subst (λ xs. Contains xs alias) (sym meets.says.aliases) there) (λ h. lost (target_on alias.target h)))
     aliases_back _ (trees.of_defaults {c} ss are b) =
-        let k = standing_alike (StandsIn m inside) (Stands (kept m) it) stands_back stands_on are (kept m) (sym meets.says.kept) in
+        let k = standing_alike (StandsInTree m inside) (Stands (kept m) it) stands_back stands_on are (kept m) (sym meets.says.kept) in
         links.of_defaults k.0 k.1 (defaults_alike ss k.0 k.2 c b)
 
     -- the same values are those of expressions, by what its files say and by the tree
@@ -365,22 +365,22 @@ module _ (given : Given) (asts : AstKey → Option Ast) (loaded : List Text) (bu
     abbrev rule_at : Layers → Evaluated → (Expression → Option (List Text)) → Known → Recipe UnresolvedDependency → Cause → Type 0
     rule_at layers e value known = BreaksRecipe value layers.syntax known e.settings
 
-    own_on : (layers : Layers) (e : Evaluated) (c : Cause) → links.BreaksStanding layers e (said m) it c → trees.BreaksStanding layers e m inside c
+    own_on : (layers : Layers) (e : Evaluated) (c : Cause) → links.BreaksStanding layers e (said m) it c → trees.BreaksStandingInTree layers e m inside c
     own_on layers e c (of_standing ss are b) =
-        let k = standing_alike (Stands (kept m) it) (StandsIn m inside) stands_on stands_back are (kept_in m) meets.says.kept in
+        let k = standing_alike (Stands (kept m) it) (StandsInTree m inside) stands_on stands_back are (kept_in m) meets.says.kept in
         of_standing k.0 k.1 (subst₂ (λ value known. InOne (rule_at layers e value known) k.0 c) (value_same layers e) (meets.says.known layers.syntax)
         (rules_alike ss k.0 k.2 (links.value_by layers e (said m)) layers.syntax (known_of layers.syntax (said m)) e.settings c b))
 
-    own_back : (layers : Layers) (e : Evaluated) (c : Cause) → trees.BreaksStanding layers e m inside c → links.BreaksStanding layers e (said m) it c
+    own_back : (layers : Layers) (e : Evaluated) (c : Cause) → trees.BreaksStandingInTree layers e m inside c → links.BreaksStanding layers e (said m) it c
     own_back layers e c (of_standing ss are b) =
-        let k = standing_alike (StandsIn m inside) (Stands (kept m) it) stands_back stands_on are (kept m) (sym meets.says.kept) in
+        let k = standing_alike (StandsInTree m inside) (Stands (kept m) it) stands_back stands_on are (kept m) (sym meets.says.kept) in
         of_standing k.0 k.1 (subst₂ (λ value known. InOne (rule_at layers e value known) k.0 c) (sym (value_same layers e)) (sym (meets.says.known layers.syntax))
         (rules_alike ss k.0 k.2 (trees.value_in layers e m) layers.syntax (known_of layers.syntax (contents_of m)) e.settings c b))
 
     -- and the same patterns are past their limits
     limits_on : (layers : Layers) (e : Evaluated) (c : Cause) → links.IsPastLimitsBy layers e (said m) it c → trees.IsPastLimitsIn layers e m inside c
     limits_on layers e c (of_standing ss are b) =
-        let k = standing_alike (Stands (kept m) it) (StandsIn m inside) stands_on stands_back are (kept_in m) meets.says.kept in
+        let k = standing_alike (Stands (kept m) it) (StandsInTree m inside) stands_on stands_back are (kept_in m) meets.says.kept in
         of_standing k.0 k.1 (subst (λ value. InOne (IsPastLimits value) k.0 c) (value_same layers e) (limits_alike ss k.0 k.2 (links.value_by layers e (said m)) c b))
 
     -- so an error may tell the same of the last groups
@@ -420,7 +420,7 @@ module _ (given : Given) (asts : AstKey → Option Ast) (loaded : List Text) (bu
     -- so where they have, what is broken in the tree is broken over them
     module _ (are_settled : AreSettled it) where
       -- what a recipe that stands depends on stands, and is found
-      far_takes : (lists : Bool) (d : UnresolvedDependency) → StandsWith (StandsIn m inside) (kept_in m) d → (least most : ℕ) → TakesIn lists m inside d.recipe least most → (r : Option (Resolution Number)) → found_by it d.recipe ≡ r
+      far_takes : (lists : Bool) (d : UnresolvedDependency) → StandsWith (StandsInTree m inside) (kept_in m) d → (least most : ℕ) → TakesIn lists m inside d.recipe least most → (r : Option (Resolution Number)) → found_by it d.recipe ≡ r
           → Resolves given asts loaded built (leads m inside d.recipe) (text_of_name d.recipe.last) r → Takes lists (kept m) it d.recipe least most
       far_takes lists d s least most t None e r =
           absurd (r (subst (λ p. EndsWell p (text_of_name d.recipe.last)) (sym t.leads_in) (subst (Contains (names_of (kept_in t.n))) t.named (name_there (kept_in t.n) t.j t.there))))
@@ -452,7 +452,7 @@ module _ (given : Given) (asts : AstKey → Option Ast) (loaded : List Text) (bu
             most_is = takes.1 lists ∙ most_same lists r.n r.shows.says r.i ∙ (λ i. most_of lists (recipe_at (kept_in (sym en i)) (same i))) ∙ t.most_is;
           }
 
-      takes_back : (lists : Bool) (d : UnresolvedDependency) → StandsWith (StandsIn m inside) (kept_in m) d → (least most : ℕ) → TakesIn lists m inside d.recipe least most → Takes lists (kept m) it d.recipe least most
+      takes_back : (lists : Bool) (d : UnresolvedDependency) → StandsWith (StandsInTree m inside) (kept_in m) d → (least most : ℕ) → TakesIn lists m inside d.recipe least most → Takes lists (kept m) it d.recipe least most
       takes_back lists d s least most t = elim (far_or given asts loaded built m inside it meets d.recipe) [
         | inr r ↦ far_takes lists d s least most t (found_by it d.recipe) refl r
         | inl z ↦ (
@@ -474,7 +474,7 @@ module _ (given : Given) (asts : AstKey → Option Ast) (loaded : List Text) (bu
       -- what is broken of dependencies in the tree is broken over the compiled modules
       pub dependencies_back : (lists : Bool) (c : Cause) → BreaksDependencies lists m inside c → BreaksLinks lists (kept m) it c
       dependencies_back lists =
-          dependencies_alike (kept_in m) (kept m) (sym meets.says.kept) (LeadsSomewhere m inside) (Leads (kept m) it) (StandsIn m inside) (Stands (kept m) it) (TakesIn lists m inside) (Takes lists (kept m) it) leads_on stands_back (takes_back lists) lists
+          dependencies_alike (kept_in m) (kept m) (sym meets.says.kept) (LeadsSomewhere m inside) (PathLeadsTo (kept m) it) (StandsInTree m inside) (Stands (kept m) it) (TakesIn lists m inside) (Takes lists (kept m) it) leads_on stands_back (takes_back lists) lists
 
       -- so is what is broken of the last groups
       pub links_back : (layers : Layers) (e : Evaluated) (g : Group) (c : Cause) → links_in m inside layers e g c → links_by (said m) it layers e g c

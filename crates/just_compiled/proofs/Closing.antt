@@ -20,7 +20,7 @@ use Rattle.just_parts.specs.Items.{Ast}
 use Rattle.just_recipe.specs.declared.dependency.UnresolvedDependency.{UnresolvedDependency}
 use Rattle.just_names.specs.declared.number.Number.{Number}
 use Rattle.just_recipe.specs.declared.recipe.Recipe.{Recipe}
-use Rattle.just_justfile.specs.Closed.{AreClosed, HasRecipe, IsClosed, StandsIn, all_closed, inside as stands_inside, itself, path_on, recipe_of_alias, recipe_of_key, recipe_of_number}
+use Rattle.just_justfile.specs.Closed.{AreClosed, HasRecipe, IsClosedModule, StandsIn, all_closed, inside as stands_inside, itself, path_on, recipe_of_alias, recipe_of_key, recipe_of_number}
 use Rattle.just_recipe.specs.Recipes.{IsResolved, find_number}
 use Rattle.just_justfile.specs.Module.{module_name}
 use Rattle.just_justfile.specs.declared.justfile.Justfile.{Justfile, out-Justfile}
@@ -36,7 +36,7 @@ use Rattle.std.specs.Option.{option_map}
 use Rattle.just_module_recipes.proofs.Later.{marked_or_none}
 use Rattle.just_module_contents.specs.Recipes.{name_of, no_recipe, recipe_at, recipes_of}
 use Rattle.just_module_contents.proofs.RecipePlaces.{number_read, recipe_read}
-use Rattle.just_module_tree.specs.Standing.{StandsIn as Stands}
+use Rattle.just_module_tree.specs.Standing.{StandsInTree as Stands}
 use Rattle.just_compiled.proofs.StandingRecipes.{from_standing}
 use Rattle.just_module_contents.specs.Resolved.{number_at, path_to, unresolved_numbers}
 use Rattle.just_compiled.proofs.Agreeing.{SayAll, Shows}
@@ -159,7 +159,7 @@ module _ (R : Reading) (given : Given) (asts : AstKey → Option Ast) (paths : (
         let x = alias_held given asts loaded built m below j shows name alias f in
         subst (λ o. IsSome o) (sym (ap (λ qs. find_number qs alias.target.0) all ∙ x.1)) refl
 
-    module_closed : Shows given asts loaded built m below j → IsClosed j recipes
+    module_closed : Shows given asts loaded built m below j → IsClosedModule j recipes
     module_closed shows = record {
       named = λ name some. key_held name (find name (out-Justfile j).recipes) refl some;
       default = default_held (out-Justfile j).default is.default;

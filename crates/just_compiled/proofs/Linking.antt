@@ -12,7 +12,7 @@ use Rattle.just_module_recipes.specs.Completing.{completion}
 use Rattle.just_module_recipes.specs.Linked.{AreLinked, HasDisabled, HasNumber, IsLinked, IsMadeAt, IsMadeOf}
 use Rattle.just_module_recipes.specs.Links.{Around, Disables, Stands, around_of}
 use Rattle.just_module_tree.specs.Modules.{Forest, Module, path_of}
-use Rattle.just_module_tree.specs.Standing.{DisabledBy, StandsIn}
+use Rattle.just_module_tree.specs.Standing.{DisabledBy, StandsInTree}
 use Rattle.just_names.specs.Texts.{Text}
 use Rattle.just_names.specs.declared.name.Namepath.{Namepath}
 use Rattle.just_names.specs.declared.number.Number.{Number}
@@ -73,8 +73,8 @@ module _ (given : Given) (asts : AstKey → Option Ast) (loaded : List Text) (bu
     own_there = is.own_there;
     name = is.name;
     path = is.path;
-    linked = subst (λ all. AreLinked (StandsIn m inside) (HasNumberIn given asts m inside) (completion_of value given.syntax j) (out-Justfile j).settings.lists all (kept_by given asts m) (path_of m) made.recipes) (sym recipes_more)
-        (linked_same (StandsIn m inside) (StandsIn m inside) (λ name s. s) (λ name s. s) (HasNumberIn given asts m inside) (HasNumberIn given asts m inside) (λ path n h. h) (completion_of value given.syntax j).by (completion_of value given.syntax j).Needs (completion_of value given.syntax j).Needs (λ r ns needs. needs) (out-Justfile j).settings.lists (recipes_of_all built) (recipes_of_all more) (kept_by given asts m) (path_of m) made.recipes is.linked);
+    linked = subst (λ all. AreLinked (StandsInTree m inside) (HasNumberIn given asts m inside) (completion_of value given.syntax j) (out-Justfile j).settings.lists all (kept_by given asts m) (path_of m) made.recipes) (sym recipes_more)
+        (linked_same (StandsInTree m inside) (StandsInTree m inside) (λ name s. s) (λ name s. s) (HasNumberIn given asts m inside) (HasNumberIn given asts m inside) (λ path n h. h) (completion_of value given.syntax j).by (completion_of value given.syntax j).Needs (completion_of value given.syntax j).Needs (λ r ns needs. needs) (out-Justfile j).settings.lists (recipes_of_all built) (recipes_of_all more) (kept_by given asts m) (path_of m) made.recipes is.linked);
     standing = is.standing;
     stand = is.stand;
     disabled = is.disabled;
@@ -96,8 +96,8 @@ module _ (given : Given) (asts : AstKey → Option Ast) (loaded : List Text) (bu
 
 -- What a module's recipes are linked to, of all recipes, as the tree has it.
 pub record HasLinksIn (value : Expression → Option (List Text)) (given : Given) (asts : AstKey → Option Ast) (all : List (Recipe Dependency)) (m : Module) (inside : Forest) (path : Modulepath) (added : List (Recipe Dependency)) (standing : List (Recipe UnresolvedDependency)) (j : Justfile) : Type 0 where
-  pub linked : AreLinked (StandsIn m inside) (HasNumberIn given asts m inside) (completion_of value given.syntax j) (out-Justfile j).settings.lists all (kept_by given asts m) path added
-  pub stand : AreStanding (StandsIn m inside) (kept_by given asts m) standing
+  pub linked : AreLinked (StandsInTree m inside) (HasNumberIn given asts m inside) (completion_of value given.syntax j) (out-Justfile j).settings.lists all (kept_by given asts m) path added
+  pub stand : AreStanding (StandsInTree m inside) (kept_by given asts m) standing
   pub disabled : HasDisabled (DisabledBy m inside) (kept_by given asts m) (out-Justfile j).disabled_recipes
 
 -- what a justfile is linked to over the modules that it has is what its module is linked to in the tree
@@ -117,11 +117,11 @@ module _ (given : Given) (asts : AstKey → Option Ast) (loaded : List Text) (bu
   has_links value all rest path added standing all_is links =
       let on = stands_on given asts loaded built m inside it meets in
       let back = stands_back given asts loaded built m inside it meets in
-      let linked = linked_same (Stands (kept_by given asts m) it) (StandsIn m inside) on back (HasNumber (kept_by given asts m) it) (HasNumberIn given asts m inside) (number_on given asts loaded built m inside it meets)
+      let linked = linked_same (Stands (kept_by given asts m) it) (StandsInTree m inside) on back (HasNumber (kept_by given asts m) it) (HasNumberIn given asts m inside) (number_on given asts loaded built m inside it meets)
       (completion_of value given.syntax j).by (completion_of value given.syntax j).Needs (completion_of value given.syntax j).Needs (λ r ns needs. needs) (out-Justfile j).settings.lists
       (before ++ added) rest (kept_by given asts m) path added links.linked in
       record {
-        linked = subst (λ rs. AreLinked (StandsIn m inside) (HasNumberIn given asts m inside) (completion_of value given.syntax j) (out-Justfile j).settings.lists rs (kept_by given asts m) path added) (sym all_is) linked;
-        stand = standing_same (Stands (kept_by given asts m) it) (StandsIn m inside) on back links.stand;
+        linked = subst (λ rs. AreLinked (StandsInTree m inside) (HasNumberIn given asts m inside) (completion_of value given.syntax j) (out-Justfile j).settings.lists rs (kept_by given asts m) path added) (sym all_is) linked;
+        stand = standing_same (Stands (kept_by given asts m) it) (StandsInTree m inside) on back links.stand;
         disabled = has_disabled_same (Disables (kept_by given asts m) it) (DisabledBy m inside) disabled_on disabled_back (kept_by given asts m) (out-Justfile j).disabled_recipes links.disabled;
       }

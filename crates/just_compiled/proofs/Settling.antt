@@ -12,7 +12,7 @@ use Rattle.just_compiled.proofs.ByName.{names_sorted}
 use Rattle.just_compiled.proofs.Closing.{named_in}
 use Rattle.just_compiled.proofs.RecipeKeys.{found_among, key_found}
 use Rattle.just_graph.proofs.Members.{In, is_in}
-use Rattle.just_justfile.specs.Walks.{Absent, AreOrdered, End, Here, Inside, IsOrdered, NamesRise, Nowhere, beyond, end_of, in_order, module_named, only, path_along, recipe_at as key_at, recipe_by}
+use Rattle.just_justfile.specs.Walks.{Absent, AreOrdered, End, Here, Inside, AreModulesOrdered, NamesRise, Nowhere, beyond, end_of, in_order, module_named, only, path_along, recipe_at as key_at, recipe_by}
 use Rattle.just_justfile.specs.declared.disabled.Disabled.{Disabled}
 use Rattle.just_justfile.specs.declared.justfile.Justfile.{Justfile, out-Justfile, out-roll-Justfile}
 use Rattle.just_justfile.specs.declared.justfile.RecipeKey.{RecipeKey}
@@ -86,7 +86,7 @@ pub settled_more : {held : List (Recipe Dependency)} {j : Justfile} (rest : List
 settled_more {held} rest (settled recipes disabled rise inner) = settled (λ name key e. held_more held rest key.number.0 (recipes name key e)) disabled rise (λ i c. settled_more rest (inner i c))
 
 -- the names of the modules in a settled one rise, in each module
-pub settled_ordered : {held : List (Recipe Dependency)} {j : Justfile} → IsSettled held j → IsOrdered j
+pub settled_ordered : {held : List (Recipe Dependency)} {j : Justfile} → IsSettled held j → AreModulesOrdered j
 settled_ordered (settled recipes disabled rise inner) = in_order rise (λ i c. settled_ordered (inner i c))
 
 module _ (held : List (Recipe Dependency)) where
@@ -210,8 +210,8 @@ named_settled held js labels all x c =
     subst (IsSettled held) (sym r.3) (settled_labelled r.1 (all r.0 r.2))
 
 -- of modules in which the names of the modules rise, under labels, by their names, all names rise
-pub ordered_by_name : (js : List Justfile) (labels : List Label) → ((j : Justfile) → In j js → IsOrdered j) → AreOrdered (by_name (with_labels js labels))
+pub ordered_by_name : (js : List Justfile) (labels : List Label) → ((j : Justfile) → In j js → AreModulesOrdered j) → AreOrdered (by_name (with_labels js labels))
 ordered_by_name js labels all = in_order (names_sorted (with_labels js labels)) (λ x c.
     let r = labelled_in js labels x (named_in (with_labels js labels) x (is_in x (by_name (with_labels js labels)) c)) in
     let out = out-roll-Justfile (record (out-Justfile r.0) { name = r.1.name; doc = r.1.doc; groups = r.1.groups; private = r.1.private }) in
-    subst IsOrdered (sym r.3) (subst (λ k. AreOrdered k.modules) (sym out) (all r.0 r.2)))
+    subst AreModulesOrdered (sym r.3) (subst (λ k. AreOrdered k.modules) (sym out) (all r.0 r.2)))

@@ -37,7 +37,7 @@ use Rattle.just_module_headers.specs.Reading.{Submodule, items_in}
 use Rattle.just_module_contents.specs.Standing.{AreStanding}
 use Rattle.just_justfile.specs.Module.{module_name}
 use Rattle.just_module_recipes.specs.Linked.{AreLinked, HasDisabled}
-use Rattle.just_module_tree.specs.Standing.{DisabledBy, In, Missing, Nowhere, StandsIn, follow, leads, name_in}
+use Rattle.just_module_tree.specs.Standing.{DisabledBy, In, Missing, Nowhere, StandsInTree, follow, leads, name_in}
 use Rattle.just_names.specs.Index.{AreDifferent}
 use Rattle.just_names.specs.Name.{text_of_name, texts_of_path}
 use Rattle.just_names.specs.declared.name.Namepath.{Namepath}
@@ -104,7 +104,7 @@ pub record HasNumberIn (given : Given) (asts : AstKey → Option Ast) (m : Modul
 pub data MeansIn (given : Given) (asts : AstKey → Option Ast) (m : Module) (inside : Forest) (path : Namepath) : Meaning → Type 0 where
   a_module : (n : Module) (below : Forest) → follow (texts_of_path path) m inside ≡ In n below → MeansIn given asts m inside path (meaning.Module (path_of n))
   missing : (names : List Text) → follow (texts_of_path path) m inside ≡ Missing names → MeansIn given asts m inside path (meaning.Disabled (only (path_along names)))
-  a_recipe : {number : Number} (h : HasNumberIn given asts m inside path number) → follow (texts_of_path path) m inside ≡ Nowhere → StandsIn h.to h.below (text_of_name path.last) → MeansIn given asts m inside path (meaning.Recipe number)
+  a_recipe : {number : Number} (h : HasNumberIn given asts m inside path number) → follow (texts_of_path path) m inside ≡ Nowhere → StandsInTree h.to h.below (text_of_name path.last) → MeansIn given asts m inside path (meaning.Recipe number)
   a_disabled : {set : BTreeSet Modulepath} (n : Module) (below : Forest) → follow (texts_of_path path) m inside ≡ Nowhere → leads m inside path ≡ In n below → set.keys ≢ []
       → ((by : Modulepath) → Contains set.keys by ↔ DisabledBy n below (text_of_name path.last) by) → MeansIn given asts m inside path (meaning.Disabled set)
 
@@ -125,10 +125,10 @@ pub record IsCompiled (given : Given) (asts : AstKey → Option Ast) (loaded : L
   pub name : module_name j ≡ name_in m
   pub path : (out-Justfile j).module_path ≡ path_of m
   pub standing : List (Recipe UnresolvedDependency)
-  pub stand : AreStanding (StandsIn m inside) (kept_by given asts m) standing
+  pub stand : AreStanding (StandsInTree m inside) (kept_by given asts m) standing
   pub disabled : HasDisabled (DisabledBy m inside) (kept_by given asts m) (out-Justfile j).disabled_recipes
   pub evaluated : IsEvaluatedTo (layers_at given (path_of m)) (contents_in given.syntax.enabled asts m.files) (map (λ (s : Submodule). s.label) m.modules) (map label_in inner) made.overridden j
-  pub linked : AreLinked (StandsIn m inside) (HasNumberIn given asts m inside) (completion_of (value_by given asts m evaluated.it) given.syntax j) (out-Justfile j).settings.lists all (kept_by given asts m) (path_of m) made.recipes
+  pub linked : AreLinked (StandsInTree m inside) (HasNumberIn given asts m inside) (completion_of (value_by given asts m evaluated.it) given.syntax j) (out-Justfile j).settings.lists all (kept_by given asts m) (path_of m) made.recipes
   pub variables : HasVariables given.syntax (contents_in given.syntax.enabled asts m.files) j
   pub tables : HasTables j
   pub default : HasDefault standing (recipes_of given.syntax.enabled own.items) j

@@ -25,7 +25,7 @@ use Rattle.just_compiler.specs.Analyzed.{ComeAfter, IsAnalyzed}
 use Rattle.just_names.specs.Index.{AreDifferent}
 use Rattle.just_module_contents.specs.Contents.{texts_of_named}
 use Rattle.just_module_headers.specs.Files.{ArePlaced, AreRows}
-use Rattle.just_module_tree.specs.Groups.{NamesModules}
+use Rattle.just_module_tree.specs.Groups.{BreaksModules}
 use Rattle.just_module_tree.specs.Standing.{told_in}
 use Rattle.just_module_headers.specs.Joined.{AreArranged, AreJoined, GoDeeper, IsJoined}
 use Rattle.just_compiled.specs.Labelled.{label_in, labelled_as, slot, by_name, with_labels}
@@ -37,7 +37,7 @@ use Rattle.just_module_headers.specs.OfPlaces.{RepeatsNames, labels_of_place, na
 use Rattle.just_compiler.specs.Steps.{BreaksInOrder, CanCompileAll, HaveCompiled, BreaksOver, HaveCompiledSoFar, not_yet, so_far}
 use Rattle.just_module_headers.specs.declared.files.Files.{Files}
 use Rattle.just_module_headers.specs.declared.files.Rows.{Rows}
-use Rattle.just_module_headers.specs.declared.joined.Joined.{Joined}
+use Rattle.just_module_headers.specs.declared.join.Joined.{Joined}
 use Rattle.just_module_tree.proofs.Agreeing.{find_reached}
 use Rattle.just_compiled.proofs.Closing.{forest_closed, forest_tables}
 use Rattle.just_compiled.proofs.Saying.{forest_says}
@@ -116,7 +116,7 @@ module _ (given : Given) (entries : List (AstKey × Ast)) (d : AstKey) (files : 
         omega (arith, in_files (get_or row i x) (is_in (get_or row i x) row (Contains-get_or row i x h)), count given.syntax.enabled entries d files placed rows are can.paths)
 
     -- two modules of one name are named
-    pub repeats_named : (c : Cause) → RepeatsNames given.syntax.enabled files joined order c → NamesModules told_in given R top c
+    pub repeats_named : (c : Cause) → RepeatsNames given.syntax.enabled files joined order c → BreaksModules told_in given R top c
     repeats_named c r =
         let h = heading r.at r.there in
         names_repeated given entries d files placed rows are can.paths joined order below joins arr.ordered.steps_first top r.at r.there h.0 h.2 h.1 c r.broken
@@ -136,7 +136,7 @@ module _ (given : Given) (entries : List (AstKey × Ast)) (d : AstKey) (files : 
       many k l = (all_can.each k l).labels
 
       -- a broken rule is named: of the first module, or over those that are compiled
-      first_named : (loaded : List Text) (k : ℕ) (l : k < length order) → k ≡ 0 → (slots : List (Option Justfile)) (held : List (Recipe Dependency)) → held ≡ [] → (c : Cause) → BreaksOver given files joined (slice_index order k) slots held c → NamesModules told_in given R top c
+      first_named : (loaded : List Text) (k : ℕ) (l : k < length order) → k ≡ 0 → (slots : List (Option Justfile)) (held : List (Recipe Dependency)) → held ≡ [] → (c : Cause) → BreaksOver given files joined (slice_index order k) slots held c → BreaksModules told_in given R top c
       first_named loaded k l start slots held empty c broken =
           let h = heading k l in
           let row = targets joined.modules.items (slice_index order k) in
@@ -145,10 +145,10 @@ module _ (given : Given) (entries : List (AstKey × Ast)) (d : AstKey) (files : 
           names_over given entries d files placed rows are can.paths joined order below joins arr.ordered.steps_first loaded many names_at k l h.0 h.2 Empty (subst (λ hs. AreModules R hs Empty) (sym heads) no_module) [] [] (ap length (sym none)) (λ labels e. no_compiled_as given (λ q. lookup (same_ast_key q) entries) loaded [] labels)
           top h.1 (λ x below' i. absurd (nobody i refl)) held (sym empty) (λ labels x c. absurd (is_in x (by_name (with_labels [] labels)) c)) slots (ap (map (slot slots)) (sym none)) c broken
 
-      pub broken_named : (loaded : List Text) (c : Cause) → BreaksInOrder given files joined loaded order c → NamesModules told_in given R top c
+      pub broken_named : (loaded : List Text) (c : Cause) → BreaksInOrder given files joined loaded order c → BreaksModules told_in given R top c
       broken_named loaded c r = go r.before
         where
-          go : HaveCompiledSoFar given files joined loaded order r.at r.slots r.all → NamesModules told_in given R top c
+          go : HaveCompiledSoFar given files joined loaded order r.at r.slots r.all → BreaksModules told_in given R top c
           go (not_yet start room recipes overridden) = first_named loaded r.at r.there start r.slots r.all.recipes recipes c r.broken
           go (so_far so) =
               let h = heading r.at r.there in

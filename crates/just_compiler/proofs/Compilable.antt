@@ -22,7 +22,7 @@ use Rattle.just_compiled.proofs.Closing.{own_joined}
 use Rattle.just_compiler.specs.Steps.{CanCompile, CanCompileAll}
 use Rattle.just_module_headers.specs.declared.files.Files.{Files}
 use Rattle.just_module_headers.specs.declared.files.Rows.{Rows}
-use Rattle.just_module_headers.specs.declared.joined.Joined.{Joined}
+use Rattle.just_module_headers.specs.declared.join.Joined.{Joined}
 use Rattle.just_module_headers.proofs.FilePlaces.{count, key_count}
 use Rattle.just_module_tree.proofs.ModulePaths.{file_path, one_outer, one_path, row_once, subs_at}
 use Rattle.just_module_tree.proofs.ModulePlaces.{file_inside, inner_keys}

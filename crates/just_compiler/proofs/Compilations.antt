@@ -12,7 +12,7 @@ use Rattle.just_recipe.specs.declared.recipe.Recipe.{Recipe}
 use Rattle.just_justfile.specs.declared.justfile.Justfile.{Justfile}
 use Rattle.just_parts.specs.Evaluator.{Evaluator}
 use Rattle.just_names.specs.declared.number.Number.{Number}
-use Rattle.just_loader.specs.Keys.{NamesInFiles}
+use Rattle.just_loader.specs.Keys.{BreaksFiles}
 use Rattle.just_loader.specs.Loaded.{IsLoaded}
 use Rattle.just_loader.specs.Reached.{World}
 use Rattle.just_loader.proofs.HeldKeys.{root_held}
@@ -22,20 +22,20 @@ use Rattle.just_module_tree.proofs.Agreeing.{agreeing_forests, agreeing_kept, ag
 use Rattle.just_module_tree.specs.Modules.{Empty, Forest, Tree}
 use Rattle.just_module_tree.specs.Overrides.{BreaksOverrides}
 use Rattle.just_overrides.proofs.Ruling.{none_broken, tells_broken}
-use Rattle.just_overrides.specs.Applied.{Tells}
+use Rattle.just_overrides.specs.Applied.{TellsUnknown}
 use Rattle.just_overrides.specs.Reached.{unknown}
 use Rattle.just_compiler.specs.Compiled.{Compilation, Compiles}
 use Rattle.just_compiler.specs.Readings.{Overrides, given_in, root_heading}
-use Rattle.just_compiler.specs.Rules.{KeepsAll, MayTell, Names, in_files, in_modules, in_overrides}
+use Rattle.just_compiler.specs.Rules.{KeepsAll, MayTell, BreaksCompilation, in_files, in_modules, in_overrides}
 use Rattle.just_compiler.proofs.Readings.{are_analyzable, is_reading, readings_agree}
 
-module _ (evaluator : Evaluator) (overrides : Overrides) (w : World) (asts : AstKey → Option Ast) (loaded : List Text) (is : IsLoaded w asts loaded) (files : Keeps (NamesInFiles w)) (justfile : Justfile) (recipes : List (Recipe Dependency)) (overridden : List (Number × Text))
+module _ (evaluator : Evaluator) (overrides : Overrides) (w : World) (asts : AstKey → Option Ast) (loaded : List Text) (is : IsLoaded w asts loaded) (files : Keeps (BreaksFiles w)) (justfile : Justfile) (recipes : List (Recipe Dependency)) (overridden : List (Number × Text))
     (analyzed : IsAnalyzed (given_in evaluator overrides w) asts loaded (root_heading w) justfile recipes overridden) where
   abbrev forest : Forest
   forest = Tree analyzed.m analyzed.inside Empty
 
   -- keys that are told break the rule of overrides
-  pub told : (c : Cause) → Tells (unknown justfile overrides.entries) c → MayTell evaluator overrides w c
+  pub told : (c : Cause) → TellsUnknown (unknown justfile overrides.entries) c → MayTell evaluator overrides w c
   told c tells =
       in_overrides (reading_of w.answers.enabled asts) forest files (is_reading w asts loaded is) analyzed.are_modules analyzed.kept
       (tells_broken (given_in evaluator overrides w) asts loaded analyzed.built (root_heading w) refl analyzed.m analyzed.inside analyzed.are_modules analyzed.kept recipes justfile analyzed.compiled analyzed.closed overrides.entries c tells)
@@ -56,7 +56,7 @@ module _ (evaluator : Evaluator) (overrides : Overrides) (w : World) (asts : Ast
     }
 
     -- and none is named
-    pub none_named : Keeps (Names evaluator overrides w)
+    pub none_named : Keeps (BreaksCompilation evaluator overrides w)
     none_named c (in_files n) = files c n
     none_named c (in_modules R kept reads n) =
         agreeing_unnamed w.answers.enabled asts (are_analyzable w asts loaded is) (given_in evaluator overrides w) R (readings_agree w asts loaded is R reads) (root_heading w) (root_held w asts loaded is) _ analyzed.are_modules analyzed.kept c n

@@ -37,7 +37,7 @@ use Rattle.just_module_headers.specs.declared.files.Files.{Files}
 use Rattle.just_module_contents.specs.declared.labels.Label.{Label}
 use Rattle.just_module_contents.specs.declared.notes.Notes.{Notes}
 use Rattle.just_module_headers.specs.declared.files.Rows.{Rows}
-use Rattle.just_module_headers.specs.declared.joined.Joined.{Joined}
+use Rattle.just_module_headers.specs.declared.join.Joined.{Joined}
 use Rattle.just_parts.proofs.AstKeys.{keys_equivalent}
 use Rattle.just_compiled.proofs.Closing.{own_joined}
 use Rattle.just_module_headers.proofs.FilePlaces.{says}
@@ -55,7 +55,7 @@ use Rattle.just_module_recipes.specs.Links.{Around, Disables, Stands, around, ar
 use Rattle.just_errors.specs.Causes.{Cause, Keeps}
 use Rattle.just_recipe.specs.declared.dependency.Dependency.{Dependency}
 use Rattle.just_module_contents.specs.Groups.{KeepsContents}
-use Rattle.just_module_tree.specs.Groups.{KeepsModules, NamesModules, KeepsGroups}
+use Rattle.just_module_tree.specs.Groups.{KeepsModules, BreaksModules, KeepsGroups}
 use Rattle.just_compiled.proofs.Agreeing.{Meets}
 use Rattle.just_paths.specs.declared.modulepath.Modulepath.{Modulepath}
 use Rattle.just_recipe.specs.declared.recipe.Recipe.{Recipe}
@@ -70,11 +70,11 @@ use Rattle.just_compiled.proofs.Agreeing.{Shows}
 use Rattle.just_compiled.proofs.Aliasing.{all_aliased, means_in, means_nothing}
 use Rattle.just_compiled.proofs.Bridges.{aliases_back, links_back}
 use Rattle.just_module_contents.specs.Groups.{OfAliases}
-use Rattle.just_module_contents.specs.Rules.{Aliases, under, unknown_target}
+use Rattle.just_module_contents.specs.Rules.{BreaksAliasTargets, under, unknown_target}
 use Rattle.just_module_recipes.specs.Aliased.{aliases_of, meant, no_aliases, targets as targets_made, targets_of}
 use Rattle.just_ast_definitions.specs.declared.alias.Alias.{Alias}
 use Rattle.just_names.specs.declared.name.Namepath.{Namepath}
-use Rattle.just_module_tree.specs.Standing.{HasTarget, links_in, name_in, of_targets, told_in}
+use Rattle.just_module_tree.specs.Standing.{HasTargetInTree, links_in, name_in, of_targets, told_in}
 use Rattle.just_justfile.specs.Module.{module_name}
 use Rattle.just_module_tree.proofs.ModulePaths.{subs_at}
 use Rattle.just_names.specs.Name.{text_if_named}
@@ -330,7 +330,7 @@ module _ (given : Given) (entries : List (AstKey × Ast)) (d : AstKey) (files : 
           g (subst (λ (x : Layers). KeepsContents x (links_by (contents_of_place given.syntax.enabled files joined p) over) (contents_of_place given.syntax.enabled files joined p)) layers_same at.kept g)
 
       -- no target of its aliases is unknown
-      targets_there : Keeps (Aliases (HasTarget m inside) (contents_of m).aliases)
+      targets_there : Keeps (BreaksAliasTargets (HasTargetInTree m inside) (contents_of m).aliases)
       targets_there c broken = at.kept OfAliases c (under at.evaluated.evaluated (subst (λ n. links_by n over (layers_at given (path_at files p)) at.evaluated.it OfAliases c) (sym cs_same) (aliases_back given asts loaded built m inside over meets_over c (of_targets broken))))
 
       -- so it has its aliases
@@ -411,7 +411,7 @@ module _ (given : Given) (entries : List (AstKey × Ast)) (d : AstKey) (files : 
   -- what the next module breaks over those that are compiled is named
   pub names_next : (root : Heading) (l : bound < length order) (h : Heading) (e : h.key ≡ key_at (slice_index order bound)) → IsHeading (reading_of given.syntax.enabled asts) root h
       → (slots : List (Option Justfile)) → map Some (map justfile (targets joined.modules.items (slice_index order bound))) ≡ map (slot slots) (targets joined.modules.items (slice_index order bound))
-      → (c : Cause) → BreaksOver given files joined (slice_index order bound) slots (made_before made order bound) c → NamesModules told_in given (reading_of given.syntax.enabled asts) root c
+      → (c : Cause) → BreaksOver given files joined (slice_index order bound) slots (made_before made order bound) c → BreaksModules told_in given (reading_of given.syntax.enabled asts) root c
   names_next root l h e reached slots there c broken =
       let held = inside_held bound l (omega arith) h e in
       let row = targets joined.modules.items (slice_index order bound) in

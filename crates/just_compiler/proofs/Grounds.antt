@@ -3,10 +3,10 @@ use Rattle.std.proofs.Common.{arith, subst}
 use Rattle.just_errors.specs.Causes.{Cause, Keeps}
 use Rattle.just_parts.specs.Layers.{Layers}
 use Rattle.just_module_variables.proofs.Once.{evaluated_once}
-use Rattle.just_module_contents.specs.Constants.{Docs, Evaluated, IsEvaluated}
+use Rattle.just_module_contents.specs.Constants.{BreaksDocs, Evaluated, IsEvaluated}
 use Rattle.just_module_contents.specs.Contents.{Contents}
-use Rattle.just_module_contents.specs.Groups.{BodiesAndDocs, Breaks, BreaksContents, KeepsBefore, KeepsContents, Links, OfAliases, OfBodies, OfConstants, OfDependencies, OfExpressions, OfHeaders, OfNames, OfRecipes, in_docs, in_bodies as in_body}
-use Rattle.just_module_contents.specs.Rules.{Bodies, Under, under}
+use Rattle.just_module_contents.specs.Groups.{BreaksBodiesAndDocs, Breaks, BreaksContents, KeepsBefore, KeepsContents, Links, OfAliases, OfBodies, OfConstants, OfDependencies, OfExpressions, OfHeaders, OfNames, OfRecipes, in_docs, in_bodies as in_body}
+use Rattle.just_module_contents.specs.Rules.{BreaksBodies, WhereEvaluated, under}
 use Rattle.just_module_recipes.specs.Broken.{BreaksRecipes, in_aliases, in_bodies, in_dependencies, in_recipes}
 
 module _ (layers : Layers) (links : Links) (m : Contents) (earlier : KeepsBefore layers links OfBodies m) where
@@ -53,18 +53,18 @@ module _ (layers : Layers) (links : Links) (m : Contents) (earlier : KeepsBefore
 
 -- what is kept of a module as it is evaluated, and what is broken
 module _ (layers : Layers) (links : Links) (m : Contents) (it : Evaluated) (is : IsEvaluated layers m it) where
-  under_kept : (broken : Evaluated → Cause → Type 0) → Keeps (broken it) → Keeps (Under (IsEvaluated layers m) broken)
+  under_kept : (broken : Evaluated → Cause → Type 0) → Keeps (broken it) → Keeps (WhereEvaluated (IsEvaluated layers m) broken)
   under_kept broken kept c (under {a} other b) = kept c (subst (λ (x : Evaluated). broken x c) (evaluated_once layers m a it other is) b)
 
   abbrev DocsKept : Type 0
-  DocsKept = Keeps (Docs layers.syntax layers.evaluator m it.constants)
+  DocsKept = Keeps (BreaksDocs layers.syntax layers.evaluator m it.constants)
 
-  both_kept : DocsKept → Keeps (Bodies layers.syntax it.settings m) → Keeps (BodiesAndDocs layers m it)
+  both_kept : DocsKept → Keeps (BreaksBodies layers.syntax it.settings m) → Keeps (BreaksBodiesAndDocs layers m it)
   both_kept docs bodies c (in_docs b) = docs c b
   both_kept docs bodies c (in_body b) = bodies c b
 
-  bodies_under : DocsKept → Keeps (Bodies layers.syntax it.settings m) → Keeps (Breaks layers links OfBodies m)
-  bodies_under docs bodies = under_kept (BodiesAndDocs layers m) (both_kept docs bodies)
+  bodies_under : DocsKept → Keeps (BreaksBodies layers.syntax it.settings m) → Keeps (Breaks layers links OfBodies m)
+  bodies_under docs bodies = under_kept (BreaksBodiesAndDocs layers m) (both_kept docs bodies)
 
   dependencies_under : Keeps (links layers it OfDependencies) → Keeps (Breaks layers links OfDependencies m)
   dependencies_under kept = under_kept (λ (x : Evaluated). links layers x OfDependencies) kept
@@ -76,13 +76,13 @@ module _ (layers : Layers) (links : Links) (m : Contents) (it : Evaluated) (is :
   aliases_under kept = under_kept (λ (x : Evaluated). links layers x OfAliases) kept
 
   module _ (earlier : KeepsBefore layers links OfBodies m) where
-    first_kept : DocsKept → Keeps (Bodies layers.syntax it.settings m) → KeepsBefore layers links OfDependencies m
+    first_kept : DocsKept → Keeps (BreaksBodies layers.syntax it.settings m) → KeepsBefore layers links OfDependencies m
     first_kept docs bodies = before_dependencies layers links m earlier (bodies_under docs bodies)
 
-    then_kept : DocsKept → Keeps (Bodies layers.syntax it.settings m) → Keeps (links layers it OfDependencies) → KeepsBefore layers links OfRecipes m
+    then_kept : DocsKept → Keeps (BreaksBodies layers.syntax it.settings m) → Keeps (links layers it OfDependencies) → KeepsBefore layers links OfRecipes m
     then_kept docs bodies dependencies = before_recipes layers links m earlier (first_kept docs bodies) (dependencies_under dependencies)
 
-    last_kept : DocsKept → Keeps (Bodies layers.syntax it.settings m) → Keeps (links layers it OfDependencies) → Keeps (links layers it OfRecipes) → KeepsBefore layers links OfAliases m
+    last_kept : DocsKept → Keeps (BreaksBodies layers.syntax it.settings m) → Keeps (links layers it OfDependencies) → Keeps (links layers it OfRecipes) → KeepsBefore layers links OfAliases m
     last_kept docs bodies dependencies recipes = before_aliases layers links m earlier (then_kept docs bodies dependencies) (recipes_under recipes)
 
     -- what is broken of recipes is broken of the module, where docs are kept
@@ -95,7 +95,7 @@ module _ (layers : Layers) (links : Links) (m : Contents) (it : Evaluated) (is :
     -- all groups are kept where both are
     pub all_kept : DocsKept → Keeps (BreaksRecipes layers it links links m) → KeepsContents layers links m
     all_kept docs kept =
-        let bodies : Keeps (Bodies layers.syntax it.settings m) = λ c b. kept c (in_bodies b) in
+        let bodies : Keeps (BreaksBodies layers.syntax it.settings m) = λ c b. kept c (in_bodies b) in
         let dependencies : Keeps (links layers it OfDependencies) = λ c b. kept c (in_dependencies bodies b) in
         let recipes : Keeps (links layers it OfRecipes) = λ c b. kept c (in_recipes bodies dependencies b) in
         groups_kept layers links m earlier (last_kept docs bodies dependencies recipes) (aliases_under (λ c b. kept c (in_aliases bodies dependencies recipes b)))

@@ -1,11 +1,11 @@
 -- The groups of rules that are kept before those of bodies.
 use Rattle.std.proofs.Common.{◌<◌, arith}
 use Rattle.just_errors.specs.Causes.{Cause, Keeps}
-use Rattle.just_module_contents.specs.Constants.{Docs, Evaluated, IsEvaluated}
+use Rattle.just_module_contents.specs.Constants.{BreaksDocs, Evaluated, IsEvaluated}
 use Rattle.just_module_contents.specs.Contents.{Contents}
 use Rattle.just_compiler.specs.Checked.{no_links}
 use Rattle.just_module_contents.specs.Groups.{Breaks, BreaksContents, Group, KeepsBefore, Links, OfAliases, OfBodies, OfConstants, OfDependencies, OfExpressions, OfHeaders, OfNames, OfRecipes, in_docs, rank}
-use Rattle.just_module_contents.specs.Rules.{Under, under}
+use Rattle.just_module_contents.specs.Rules.{WhereEvaluated, under}
 use Rattle.just_parts.specs.Layers.{Layers}
 
 module _ (layers : Layers) (links : Links) (m : Contents) where
@@ -50,7 +50,7 @@ module _ (layers : Layers) (links : Links) (m : Contents) where
   before_bodies headers names expressions constants OfAliases lt = absurd (omega (arith, lt))
 
   -- what is broken of docs is broken of the module
-  pub docs_broken : (it : Evaluated) → IsEvaluated layers m it → KeepsBefore layers links OfBodies m → (c : Cause) → Docs layers.syntax layers.evaluator m it.constants c → BreaksContents layers links links m c
+  pub docs_broken : (it : Evaluated) → IsEvaluated layers m it → KeepsBefore layers links OfBodies m → (c : Cause) → BreaksDocs layers.syntax layers.evaluator m it.constants c → BreaksContents layers links links m c
   docs_broken it is earlier c b = record { group = OfBodies; earlier = earlier; broken = under is (in_docs b) }
 
 -- the groups before those of bodies read no links
@@ -77,7 +77,7 @@ module _ (layers : Layers) (links other : Links) (m : Contents) where
 
 -- what is broken without links is broken with any
 module _ (layers : Layers) (links told : Links) (m : Contents) (c : Cause) where
-  nothing_under : (g : Group) → Under (IsEvaluated layers m) (λ (it : Evaluated). no_links layers it g) c → ⊥
+  nothing_under : (g : Group) → WhereEvaluated (IsEvaluated layers m) (λ (it : Evaluated). no_links layers it g) c → ⊥
   nothing_under g (under is b) = b
 
   of_group : (g : Group) → KeepsBefore layers no_links g m → Breaks layers no_links g m c → BreaksContents layers links told m c

@@ -10,16 +10,16 @@ use Rattle.just_parts.specs.Layers.{Given, layers_at}
 use Rattle.just_module_contents.specs.Contents.{Contents}
 use Rattle.just_module_headers.specs.Files.{ArePlaced, AreRows}
 use Rattle.just_module_contents.specs.Groups.{OfHeaders}
-use Rattle.just_module_tree.specs.Groups.{NamesModules, in_module}
+use Rattle.just_module_tree.specs.Groups.{BreaksModules, in_module}
 use Rattle.just_module_tree.specs.Standing.{told_in}
 use Rattle.just_module_headers.specs.Joined.{IsJoined}
 use Rattle.just_module_tree.specs.Modules.{Heading, IsHeading, Module, a_module, contents_of, no_module}
 use Rattle.just_module_headers.specs.Reading.{Reading, reading_of}
-use Rattle.just_module_contents.specs.Rules.{Named, of_named}
+use Rattle.just_module_contents.specs.Rules.{BreaksNamings, of_named}
 use Rattle.just_module_headers.specs.OfPlaces.{contents_of_place, namings_of_place}
 use Rattle.just_module_headers.specs.declared.files.Files.{Files}
 use Rattle.just_module_headers.specs.declared.files.Rows.{Rows}
-use Rattle.just_module_headers.specs.declared.joined.Joined.{Joined}
+use Rattle.just_module_headers.specs.declared.join.Joined.{Joined}
 use Rattle.just_module_headers.proofs.Alike.{AreAlikeContents}
 use Rattle.just_module_headers.proofs.FilePlaces.{says}
 use Rattle.just_compiler.specs.Steps.{path_at, path_in}
@@ -71,8 +71,8 @@ module _ (given : Given) (entries : List (AstKey × Ast)) (d : AstKey) (files : 
   layers_there k l h e = ap (layers_at given) (path_same k l ∙ ap (λ (x : AstKey). x.0) (sym e))
 
   -- two modules of one name are named
-  pub names_repeated : (root : Heading) (k : ℕ) (l : k < length order) (h : Heading) → h.key ≡ key_at (slice_index order k) → IsHeading R root h → (c : Cause) → Named (namings_of_place given.syntax.enabled files joined (slice_index order k)) c → NamesModules told_in given R root c
+  pub names_repeated : (root : Heading) (k : ℕ) (l : k < length order) (h : Heading) → h.key ≡ key_at (slice_index order k) → IsHeading R root h → (c : Cause) → BreaksNamings (namings_of_place given.syntax.enabled files joined (slice_index order k)) c → BreaksModules told_in given R root c
   names_repeated root k l h e reached c b =
       let t = tree_at given.syntax.enabled entries d files placed rows are paths joined order below joins lists_first (λ f hs row. Unit {0}) tt (λ k l h inside after hs row e a b. tt) k l h e in
       in_module OfHeaders reached (a_module t.is t.are_modules no_module) (record { earlier = λ f lt. absurd (omega (arith, lt)); below = λ ne. absurd (ne refl) })
-      (of_named (subst (λ ns. Named ns c) (alike_at k l h).named b))
+      (of_named (subst (λ ns. BreaksNamings ns c) (alike_at k l h).named b))

@@ -31,7 +31,7 @@ use Rattle.just_module_headers.specs.Reading.{reading_of}
 use Rattle.just_module_recipes.proofs.PathKeys.{at_path, path_cmp}
 use Rattle.just_module_tree.proofs.Agreeing.{find_reached}
 use Rattle.just_module_tree.specs.Modules.{Forest, Heading, Module, path_of}
-use Rattle.just_module_tree.specs.Overrides.{Key}
+use Rattle.just_module_tree.specs.Overrides.{OverrideKey}
 use Rattle.just_module_variables.proofs.Substituted.{made_sorted}
 use Rattle.just_module_variables.specs.Numbered.{name_of_assignment, numbered_assignment}
 use Rattle.just_module_variables.specs.Overrides.{last_of, override_found, overrides_found}
@@ -98,7 +98,7 @@ then_both Equal s e = (refl, e)
 then_both Less s e = cc
 then_both Greater s e = cc
 
-one_key : (a b : Key) → is_eq (variable_cmp a b) ≡ true → a ≡ b
+one_key : (a b : OverrideKey) → is_eq (variable_cmp a b) ≡ true → a ≡ b
 one_key a b e =
     let both = then_both (path_cmp a.0 b.0) (slice_cmp nat_cmp a.1 b.1) e in
     let name : a.1 ≡ b.1 = (bytes_eq-Decides a.1 b.1).0 (sym (is_eq-slice_cmp a.1 b.1) ∙ both.1) in
@@ -190,9 +190,9 @@ module _ (evaluator : Evaluator) (overrides : Overrides) (w : World) (asts : Ast
       ap (option_and_then (number_in name)) (walks_on justfile path.components justfile j along) ∙ has
 
   -- what a key means is among what is meant
-  is_among : (key : Key) (value : Text) (number : Number) → In (key, value) overrides.entries → variable_of justfile key ≡ Some number → In (number, value) (meant justfile overrides.entries)
+  is_among : (key : OverrideKey) (value : Text) (number : Number) → In (key, value) overrides.entries → variable_of justfile key ≡ Some number → In (number, value) (meant justfile overrides.entries)
   is_among key value number i e =
-      in_flat (λ (entry : Key × Text). given_for entry.1 (variable_of justfile entry.0)) (number, value) (key, value) overrides.entries i (subst (λ o. In (number, value) (given_for value o)) (sym e) (inl refl))
+      in_flat (λ (entry : OverrideKey × Text). given_for entry.1 (variable_of justfile entry.0)) (number, value) (key, value) overrides.entries i (subst (λ o. In (number, value) (given_for value o)) (sym e) (inl refl))
 
   -- what overrides a variable of a module that stands in the root is meant
   module_meant : (j : Justfile) (m : Module) (below : Forest) (inner : List Justfile) (made : Made) → StandsIn justfile j → IsCompiled (given_in evaluator overrides w) asts loaded (recipes_of_all analyzed.built) m below inner made j

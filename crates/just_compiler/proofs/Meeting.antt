@@ -31,7 +31,7 @@ use Rattle.just_module_contents.specs.declared.labels.Label.{Label}
 use Rattle.just_module_contents.specs.declared.notes.Notes.{Notes}
 use Rattle.just_module_contents.specs.Notes.{absent_by, features_by, notes_of, warnings_by}
 use Rattle.just_module_headers.specs.declared.files.Rows.{Rows}
-use Rattle.just_module_headers.specs.declared.joined.Joined.{Joined}
+use Rattle.just_module_headers.specs.declared.join.Joined.{Joined}
 use Rattle.just_module_headers.proofs.FilePlaces.{says}
 use Rattle.just_module_tree.proofs.ModulePlaces.{file_inside, module_of, inner_keys, is_module}
 use Rattle.just_module_tree.proofs.Ready.{labels_are}
@@ -43,7 +43,7 @@ use Rattle.just_module_contents.specs.Groups.{BreaksContents, Group}
 use Rattle.just_errors.specs.Causes.{Cause}
 use Rattle.just_recipe.specs.declared.dependency.Dependency.{Dependency}
 use Rattle.just_compiled.specs.Settled.{IsSettled}
-use Rattle.just_module_tree.specs.Groups.{KeepsModules, NamesModules, in_module, HasGround}
+use Rattle.just_module_tree.specs.Groups.{KeepsModules, BreaksModules, in_module, HasGround}
 use Rattle.just_compiled.proofs.Agreeing.{Meets}
 use Rattle.just_recipe.specs.declared.recipe.Recipe.{Recipe}
 use Rattle.just_compiled.proofs.NamedModules.{absent_told}
@@ -188,7 +188,7 @@ module _ (given : Given) (entries : List (AstKey × Ast)) (d : AstKey) (files : 
       -- what it breaks over them is named
       module _ (root : Heading) (reached : IsHeading R root h) (kept_inside : KeepsModules given inside) (held : List (Recipe Dependency)) (all : recipes_of_all built ≡ held)
           (settled : (labels : List Label) (x : Justfile) → Contains (by_name (with_labels js labels)) x → IsSettled held x) where
-        pub names_over : (slots : List (Option Justfile)) → map Some js ≡ map (slot slots) (targets joined.modules.items p) → (c : Cause) → BreaksOver given files joined p slots held c → NamesModules told_in given R root c
+        pub names_over : (slots : List (Option Justfile)) → map Some js ≡ map (slot slots) (targets joined.modules.items p) → (c : Cause) → BreaksOver given files joined p slots held c → BreaksModules told_in given R root c
         names_over slots there c broken =
             let it = around (notes_of_place given.syntax.enabled files joined p).absent_modules (by_name (with_labels js broken.labels)) held in
             let ms = contents_of_place given.syntax.enabled files joined p in

@@ -31,7 +31,7 @@ use Rattle.just_recipe.specs.declared.dependency.UnresolvedDependency.{Unresolve
 use Rattle.just_module_headers.specs.OfPlaces.{recipes_of_place}
 use Rattle.just_compiler.specs.Steps.{BreaksInOrder, BreaksOver, CanCompileAll, CompilesPlace, HaveCompiled, HaveCompiledSoFar, IsCompiledAt, kept_of_place, made_before, not_yet, so_far, value_at}
 use Rattle.just_module_headers.specs.declared.files.Files.{Files}
-use Rattle.just_module_headers.specs.declared.joined.Joined.{Joined}
+use Rattle.just_module_headers.specs.declared.join.Joined.{Joined}
 use Rattle.just_parts.specs.Layers.{Given}
 
 -- lists of values are one where they are found alike

@@ -9,11 +9,11 @@ use Rattle.just_errors.specs.Causes.{Keeps}
 use Rattle.just_graph.proofs.Members.{In, contained, from_map, in_cases, in_map, is_in}
 use Rattle.just_module_contents.specs.Constants.{Evaluated}
 use Rattle.just_module_contents.specs.Contents.{Contents}
-use Rattle.just_module_contents.specs.Defaults.{Defaults, IsDefaultAmong, IsDefaultBy, IsDefaultOf}
+use Rattle.just_module_contents.specs.Defaults.{BreaksDefaults, IsDefaultAmong, IsDefaultBy, IsDefaultOf}
 use Rattle.just_module_contents.specs.Recipes.{name_of, no_recipe, recipe_at}
 use Rattle.just_module_contents.specs.Resolved.{AreNew, number_at, unresolved_numbers}
 use Rattle.just_module_contents.specs.Kept.{kept_recipes}
-use Rattle.just_module_contents.specs.Rules.{Aliases, Bodies}
+use Rattle.just_module_contents.specs.Rules.{BreaksAliasTargets, BreaksBodies}
 use Rattle.just_module_contents.specs.Standing.{AreStanding, falls, none, stands}
 use Rattle.just_module_recipes.specs.Broken.{BreaksRecipes}
 use Rattle.just_module_recipes.proofs.Grounds.{recipes_kept}
@@ -48,14 +48,14 @@ one_standing a b = go a b refl
 
 -- what is kept of aliases and defaults
 aliases_kept : (m : Contents) (standing : List (Recipe UnresolvedDependency)) (it : Around) → AreStanding (Stands (kept_recipes m.recipes) it) (kept_recipes m.recipes) standing
-    → Keeps (Defaults standing) → Keeps (Aliases (HasTarget (kept_recipes m.recipes) it) m.aliases) → Keeps (BreaksAliases (kept_recipes m.recipes) m.aliases it)
+    → Keeps (BreaksDefaults standing) → Keeps (BreaksAliasTargets (HasTarget (kept_recipes m.recipes) it) m.aliases) → Keeps (BreaksAliases (kept_recipes m.recipes) m.aliases it)
 aliases_kept m standing it stand defaults targets c (of_targets k) = targets c k
-aliases_kept m standing it stand defaults targets c (of_defaults other is k) = defaults c (subst (λ (rs : List (Recipe UnresolvedDependency)). Defaults rs c) (one_standing is stand) k)
+aliases_kept m standing it stand defaults targets c (of_defaults other is k) = defaults c (subst (λ (rs : List (Recipe UnresolvedDependency)). BreaksDefaults rs c) (one_standing is stand) k)
 
 -- what is kept of the recipes of a module
-pub all_recipes_kept : (layers : Layers) (e : Evaluated) (m : Contents) (standing : List (Recipe UnresolvedDependency)) (it : Around) → Keeps (Bodies layers.syntax e.settings m) → Keeps (BreaksLinks e.settings.lists (kept_recipes m.recipes) it)
-    → AreStanding (Stands (kept_recipes m.recipes) it) (kept_recipes m.recipes) standing → Keeps (BreaksStanding layers e m it) → Keeps (Defaults standing)
-    → Keeps (Aliases (HasTarget (kept_recipes m.recipes) it) m.aliases) → Keeps (BreaksRecipes layers e (links_by m it) (links_by m it) m)
+pub all_recipes_kept : (layers : Layers) (e : Evaluated) (m : Contents) (standing : List (Recipe UnresolvedDependency)) (it : Around) → Keeps (BreaksBodies layers.syntax e.settings m) → Keeps (BreaksLinks e.settings.lists (kept_recipes m.recipes) it)
+    → AreStanding (Stands (kept_recipes m.recipes) it) (kept_recipes m.recipes) standing → Keeps (BreaksStanding layers e m it) → Keeps (BreaksDefaults standing)
+    → Keeps (BreaksAliasTargets (HasTarget (kept_recipes m.recipes) it) m.aliases) → Keeps (BreaksRecipes layers e (links_by m it) (links_by m it) m)
 all_recipes_kept layers e m standing it bodies dependencies stand own defaults targets =
     recipes_kept layers e (links_by m it) m bodies dependencies own (aliases_kept m standing it stand defaults targets)
 

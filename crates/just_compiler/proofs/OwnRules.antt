@@ -14,7 +14,7 @@ use Rattle.just_module_contents.specs.Definitions.{contents_in, recipes_in}
 use Rattle.just_module_contents.specs.Kept.{kept_recipes}
 use Rattle.just_module_contents.specs.RecipeValues.{IsPastLimits}
 use Rattle.just_module_contents.specs.Recipes.{no_recipe, recipe_at}
-use Rattle.just_module_contents.specs.Rules.{Bodies}
+use Rattle.just_module_contents.specs.Rules.{BreaksBodies}
 use Rattle.just_module_contents.specs.Standing.{InStanding, in_recipe, of_standing}
 use Rattle.just_module_contents.proofs.Keeping.{kept_in}
 use Rattle.just_module_recipes.specs.Broken.{in_dependencies, in_recipes}
@@ -55,7 +55,7 @@ module _ (variables : Variables) (values : Values) (m : Contents) (covered : Cov
   covers_kept rs is i h = covers_said (recipe_at rs i) (kept_in m.recipes (recipe_at rs i) (subst (In (recipe_at rs i)) is (is_in (recipe_at rs i) rs (Contains-get_or rs i no_recipe h))))
 
 -- what is told of links is told of the module
-module _ (layers : Layers) (checked : Checked) (it : Around) (are : AreVariablesOf layers.syntax (contents_in checked.definitions) checked.variables) (bodies : Keeps (Bodies layers.syntax checked.constants.settings (contents_in checked.definitions))) where
+module _ (layers : Layers) (checked : Checked) (it : Around) (are : AreVariablesOf layers.syntax (contents_in checked.definitions) checked.variables) (bodies : Keeps (BreaksBodies layers.syntax checked.constants.settings (contents_in checked.definitions))) where
   abbrev values : Values
   values = values_of checked.constants.scope
 

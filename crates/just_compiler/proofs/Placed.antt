@@ -6,7 +6,7 @@ use Rattle.std.specs.HashMap.{get}
 use Rattle.just_module_variables.specs.Constants.{CoversAll, evaluated_in}
 use Rattle.just_module_contents.specs.Constants.{constant_expressions}
 use Rattle.just_parts.specs.Evaluator.{values_of}
-use Rattle.just_compiler.specs.Parts.{IsCovered}
+use Rattle.just_compiler.specs.Parts.{IsCheckedCovered}
 use Rattle.just_module_variables.specs.Documented.{AreDocumented}
 use Rattle.just_module_variables.specs.Variables.{AreVariablesOf, HasNumbers}
 use Rattle.just_errors.specs.Causes.{Cause, Keeps}
@@ -21,7 +21,7 @@ use Rattle.just_module_contents.specs.Resolved.{unresolved_numbers}
 use Rattle.just_graph.proofs.Members.{In, contained, from_map, in_flat, in_map, is_in}
 use Rattle.just_module_headers.specs.OfPlaces.{contents_of_place, labels_of_place, recipes_of_place}
 use Rattle.just_module_headers.specs.declared.files.Files.{Files}
-use Rattle.just_module_headers.specs.declared.joined.Joined.{Joined}
+use Rattle.just_module_headers.specs.declared.join.Joined.{Joined}
 use Rattle.just_module_recipes.specs.Broken.{BreaksRecipes}
 use Rattle.just_compiler.specs.Checked.{IsChecked, no_links}
 use Rattle.just_compiled.specs.Evaluated.{IsEvaluatedTo}
@@ -89,7 +89,7 @@ module _ (given : Given) (files : Files) (joined : Joined) (p : ℕ) (row : List
     pub variables_resolved : AreVariablesOf given.syntax (contents_in it.definitions) it.variables
     variables_resolved = subst (λ n. AreVariablesOf given.syntax n it.variables) (sym is.contents) is.constants.resolved
 
-    pub is_covered : IsCovered it
+    pub is_covered : IsCheckedCovered it
     is_covered = subst (λ (n : Contents). CoversAll it.variables (values_of it.constants.scope) (constant_expressions n)) (sym is.contents) is.constants.covered
 
     pub numbers_told : HasNumbers it.variables

@@ -18,7 +18,7 @@ use Rattle.just_recipe.specs.declared.recipe.Recipe.{Recipe}
 use Rattle.just_justfile.specs.Closed.{AreClosed, IsPlaced}
 use Rattle.just_justfile.specs.Running.{HaveOwnNumbers}
 use Rattle.just_justfile.specs.declared.justfile.Justfile.{Justfile}
-use Rattle.just_module_tree.specs.Groups.{KeepsModules, NamesModules}
+use Rattle.just_module_tree.specs.Groups.{KeepsModules, BreaksModules}
 use Rattle.just_module_tree.specs.Standing.{told_in}
 use Rattle.just_compiled.specs.Labelled.{label_in}
 use Rattle.just_compiled.specs.Variables.{HaveTables}
@@ -60,5 +60,5 @@ pub record Analyzes {G H : Type 0} (given : Given) (asts : HashMap AstKey Ast H)
   pub analyzed : IsAnalyzed given (get same_ast_key asts) loaded (heading (path, root) label) made.0 made.1 overridden
   pub added : AreInserted overridden old new
 
-abbrev pub NamesAnalyzed : {H : Type 0} → Given → HashMap AstKey Ast H → Modulepath → Text → Label → Error → Type 0
-NamesAnalyzed given asts path root label = Reports (NamesModules told_in given (reading_of given.syntax.enabled (get same_ast_key asts)) (heading (path, root) label))
+abbrev pub TellsAnalyzed : {H : Type 0} → Given → HashMap AstKey Ast H → Modulepath → Text → Label → Error → Type 0
+TellsAnalyzed given asts path root label = Reports (BreaksModules told_in given (reading_of given.syntax.enabled (get same_ast_key asts)) (heading (path, root) label))

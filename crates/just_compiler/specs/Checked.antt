@@ -7,7 +7,7 @@ use Rattle.just_module_variables.specs.Variables.{AreVariablesOf, HasNumbers}
 use Rattle.just_module_variables.specs.declared.constants.Constants.{Constants}
 use Rattle.just_module_variables.specs.declared.variables.Variables.{Variables}
 use Rattle.just_errors.specs.Causes.{Keeps}
-use Rattle.just_module_contents.specs.Constants.{Docs, IsEvaluated, constant_expressions}
+use Rattle.just_module_contents.specs.Constants.{BreaksDocs, IsEvaluated, constant_expressions}
 use Rattle.just_module_contents.specs.Contents.{Contents}
 use Rattle.just_module_contents.specs.Groups.{Links}
 use Rattle.just_module_contents.specs.Definitions.{contents_in}
@@ -36,5 +36,5 @@ pub record HasConstants (layers : Layers) (m : Contents) (variables : Variables)
 pub record IsChecked (layers : Layers) (m : Contents) (said : List Label) (it : Checked) : Type 0 where
   pub contents : contents_in it.definitions ≡ m
   pub constants : HasConstants layers m it.variables it.constants
-  pub docs : Keeps (Docs layers.syntax layers.evaluator m (values_of it.constants.scope))
+  pub docs : Keeps (BreaksDocs layers.syntax layers.evaluator m (values_of it.constants.scope))
   pub labels : AreLabels layers m (values_of it.constants.scope) said it.labels.items

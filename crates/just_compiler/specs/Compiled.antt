@@ -18,7 +18,7 @@ use Rattle.just_loader.specs.Loaded.{IsLoaded}
 use Rattle.just_loader.specs.Reached.{World}
 use Rattle.just_compiler.specs.Analyzed.{IsAnalyzed}
 use Rattle.just_compiler.specs.Readings.{IsReadingOf, Overrides, given_in, root_heading}
-use Rattle.just_compiler.specs.Rules.{KeepsAll, MayTell, Names}
+use Rattle.just_compiler.specs.Rules.{KeepsAll, MayTell, BreaksCompilation}
 use Rattle.just_compiled.specs.Variables.{HaveTables}
 use Rattle.just_parts.specs.Items.{Ast}
 use Rattle.just_compiler.specs.declared.compilation.Compilation.{Compilation as CompilationOf}
@@ -38,7 +38,7 @@ pub record IsCompilation (evaluator : Evaluator) (overrides : Overrides) (w : Wo
 -- What a compilation answers: no rule is broken, so that none is named, the files are compiled, each recipe that is named is held, each that is held is that of a module that stands in the root, whose path has no names, each variable and function stands under its own name in its module, no two variables of all modules have one number, the root can run with these recipes, each variable that was seen as overridden has a value, and the root's file is held; or a rule that is broken, or a pattern that is past the limits of regular expressions.
 pub record Compiles (evaluator : Evaluator) (overrides : Overrides) (w : World) (result : Result Compilation Error) : Type 0 where
   pub kept : IfOk result (λ _. KeepsAll evaluator overrides w)
-  pub unnamed : IfOk result (λ _. Keeps (Names evaluator overrides w))
+  pub unnamed : IfOk result (λ _. Keeps (BreaksCompilation evaluator overrides w))
   pub compiled : IfOk result (IsCompilation evaluator overrides w)
   pub rooted : IfOk result (λ (c : Compilation). IsRooted c.justfile c.recipes)
   pub top : IfOk result (λ (c : Compilation). (out-Justfile c.justfile).module_path.components ≡ [])

@@ -7,7 +7,7 @@ use Rattle.just_module_contents.specs.declared.notes.Notes.{Notes}
 use Rattle.just_module_headers.specs.Files.{asts_in}
 use Rattle.just_module_contents.specs.Named.{said_from}
 use Rattle.just_module_headers.specs.declared.files.Files.{Files}
-use Rattle.just_module_headers.specs.declared.joined.Joined.{Joined}
+use Rattle.just_module_headers.specs.declared.join.Joined.{Joined}
 
 -- what is noted of them, file after file
 abbrev pub notes_from : (Item → Bool) → List Ast → List ℕ → Notes

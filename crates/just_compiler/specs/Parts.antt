@@ -19,15 +19,15 @@ use Rattle.just_recipe.specs.declared.dependency.Dependency.{Dependency}
 use Rattle.just_recipe.specs.declared.dependency.UnresolvedDependency.{UnresolvedDependency}
 use Rattle.just_recipe.specs.declared.recipe.Recipe.{Recipe}
 use Rattle.just_module_headers.specs.declared.files.Files.{Files}
-use Rattle.just_module_headers.specs.declared.joined.Joined.{Joined}
+use Rattle.just_module_headers.specs.declared.join.Joined.{Joined}
 use Rattle.just_compiled.specs.Analysis.{HasDefault, IsOf, completion_in}
 use Rattle.just_compiled.specs.Labelled.{by_name, notes_in, slot, with_labels}
 use Rattle.just_compiled.specs.Justfiles.{Made}
 use Rattle.just_compiler.specs.Noted.{notes_of_place}
 use Rattle.just_compiled.specs.Variables.{HasVariables}
 use Rattle.just_compiler.specs.declared.groups.Checked.{Checked}
-use Rattle.just_compiler.specs.declared.making.OwnRecipes.{OwnRecipes}
-use Rattle.just_compiler.specs.declared.making.Surroundings.{Surroundings}
+use Rattle.just_compiler.specs.declared.justfiles.OwnRecipes.{OwnRecipes}
+use Rattle.just_compiler.specs.declared.justfiles.Surroundings.{Surroundings}
 use Rattle.just_names.specs.Texts.{Text}
 use Rattle.just_module_contents.specs.declared.labels.Label.{Label}
 use Rattle.just_parts.specs.Asts.{AstKey}
@@ -75,8 +75,8 @@ abbrev pub value_of : Evaluator → Checked → Expression → Option (List Text
 value_of evaluator it = value_among evaluator (contents_in it.definitions) (evaluated_in it.constants).constants
 
 -- whatever is evaluated of it while compiling reads what has a value
-abbrev pub IsCovered : Checked → Type 0
-IsCovered it = CoversAll it.variables (values_of it.constants.scope) (constant_expressions (contents_in it.definitions))
+abbrev pub IsCheckedCovered : Checked → Type 0
+IsCheckedCovered it = CoversAll it.variables (values_of it.constants.scope) (constant_expressions (contents_in it.definitions))
 
 -- what its recipes are completed to
 abbrev pub completion_here : SyntaxAnswers → Evaluator → Checked → Completion

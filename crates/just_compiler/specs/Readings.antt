@@ -14,7 +14,7 @@ use Rattle.just_loader.specs.Keys.{FileKey, IsLeastFileDepth, ast_key, items_at}
 use Rattle.just_loader.specs.Loaded.{with_path}
 use Rattle.just_loader.specs.Reached.{World, ast_of}
 use Rattle.just_module_tree.specs.Modules.{Heading, heading, label}
-use Rattle.just_module_tree.specs.Overrides.{Key}
+use Rattle.just_module_tree.specs.Overrides.{OverrideKey}
 use Rattle.just_module_headers.specs.Reading.{Reading, ast_of_both, enabled_items}
 
 -- the items of a file that count, at a depth, with the paths of the files to which they lead
@@ -35,7 +35,7 @@ root_heading w = heading (root_ast_key w.root) (label None None [] false)
 
 -- the values that override variables, under keys: the path of the module and the name of the variable
 abbrev pub Overrides : Type 0
-Overrides = BTreeMap Key Text
+Overrides = BTreeMap OverrideKey Text
 
 -- what is given to the analysis
 abbrev pub given_in : Evaluator → Overrides → World → Given

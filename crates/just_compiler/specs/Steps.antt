@@ -38,7 +38,7 @@ use Rattle.just_recipe.specs.declared.dependency.UnresolvedDependency.{Unresolve
 use Rattle.just_recipe.specs.declared.recipe.Recipe.{Recipe}
 use Rattle.just_module_headers.specs.OfPlaces.{contents_of_place, labels_of_place, namings_of_place, recipes_of_place}
 use Rattle.just_module_headers.specs.declared.files.Files.{Files}
-use Rattle.just_module_headers.specs.declared.joined.Joined.{Joined}
+use Rattle.just_module_headers.specs.declared.join.Joined.{Joined}
 
 -- the path of the module of a file
 abbrev pub path_in : Option Ast → Modulepath

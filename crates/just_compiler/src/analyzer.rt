@@ -4,7 +4,7 @@ ghost use Rattle.std.specs.Prelude.{◌≡◌, IfErr, IfOk, IsSome, None};
 ghost use Rattle.std.specs.HashMap.{get};
 ghost use Rattle.just_parts.specs.Asts.{same_ast_key};
 ghost use Rattle.just_module_headers.specs.Analyzable.{AreAnalyzable};
-ghost use Rattle.just_compiler.specs.Analyzed.{AnalyzesAt, NamesAnalyzed};
+ghost use Rattle.just_compiler.specs.Analyzed.{AnalyzesAt, TellsAnalyzed};
 ghost use Rattle.just_parts.specs.Layers.{given_by};
 
 use crate::compiling::{Gathered, compile_in_order};
@@ -13,7 +13,7 @@ use just_data::{Sequence, Shared, Text};
 use just_justfile::{Justfile, Recipes};
 use just_module_contents::Label;
 use just_module_headers::files::Files;
-use just_module_headers::joined::arrange;
+use just_module_headers::join::arrange;
 use just_module_headers::module_names::check_module_names;
 use just_overrides::insert_all;
 use just_parts::layers::{
@@ -52,7 +52,7 @@ fn analyze_modules<'src, S: Syntax, E: ConstantEvaluation>(
     ensures analyzed { let given = given_by S.answers E.answers given.now in
         IfOk result (AnalyzesAt given asts.now loaded.now module_path.now root.now label.entry) }
     ensures named { let given = given_by S.answers E.answers given.now in
-        IfErr result (NamesAnalyzed given asts.now module_path.now root.now label.entry) }
+        IfErr result (TellsAnalyzed given asts.now module_path.now root.now label.entry) }
 {
     let alloc = given.alloc;
     let files = Files::new(alloc, asts)?;
@@ -74,8 +74,8 @@ impl Analyzer {
     ghost use Rattle.std.specs.HashMap.{get};
     ghost use Rattle.std.specs.Str.{bytes_eq};
     ghost use Rattle.just_parts.specs.Asts.{same_ast_key};
-    ghost use Rattle.just_module_headers.specs.Analyzable.{AreAnalyzable, HavePaths};
-    ghost use Rattle.just_compiler.specs.Analyzed.{Analyzes, NamesAnalyzed};
+    ghost use Rattle.just_module_headers.specs.Analyzable.{AreAnalyzable, TableHasPaths};
+    ghost use Rattle.just_compiler.specs.Analyzed.{Analyzes, TellsAnalyzed};
     ghost use Rattle.just_overrides.specs.Inserted.{AreAsBefore};
     ghost use Rattle.just_module_tree.specs.Modules.{label};
     ghost use Rattle.just_parts.specs.Layers.{given_of};
@@ -107,13 +107,13 @@ impl Analyzer {
     ) -> Result<(Justfile<'src>, Recipes<'src>), Error<'src>>
         requires held { IsSome (get same_ast_key asts.now (module_path.now, root.now)) }
         requires asts { AreAnalyzable (S.answers syntax.now).enabled (get same_ast_key asts.now) }
-        requires paths { HavePaths (get same_ast_key asts.now) (get bytes_eq paths.now) }
+        requires paths { TableHasPaths (get same_ast_key asts.now) (get bytes_eq paths.now) }
         ensures made { let given = given_of (S.answers syntax.now) (E.answers evaluation.now) config.now.overrides in
             let top = label name.entry doc groups.now private in
             IfOk result (λ made. Analyzes given asts.now loaded.now module_path.now root.now top overrides.old overrides.new made) }
         ensures named { let given = given_of (S.answers syntax.now) (E.answers evaluation.now) config.now.overrides in
             let top = label name.entry doc groups.now private in
-            IfErr result (NamesAnalyzed given asts.now module_path.now root.now top) }
+            IfErr result (TellsAnalyzed given asts.now module_path.now root.now top) }
         ensures refused { OnErr result (AreAsBefore overrides.old overrides.new) }
     {
         let given = Given {

@@ -16,19 +16,19 @@ ghost use Rattle.just_module_headers.specs.OfPlaces.{recipes_of_place};
 ghost use Rattle.just_module_contents.specs.Kept.{kept_recipes};
 ghost use Rattle.just_module_contents.specs.Named.{recipes_by};
 ghost use Rattle.just_module_recipes.specs.Linked.{AreSettled};
-ghost use Rattle.just_compiler.specs.Parts.{AreSurroundings, IsAnalyzedFrom, IsCovered, TellsChecked, around_by};
+ghost use Rattle.just_compiler.specs.Parts.{AreSurroundings, IsAnalyzedFrom, IsCheckedCovered, TellsChecked, around_by};
 ghost use Rattle.just_compiled.specs.Settled.{AreInnerSettled};
 ghost use Rattle.just_compiler.specs.Steps.{BreaksInOrder, BreaksOver, CanCompileAll, CompilesAt, FitsFiles, HaveCompiledAll, made_in};
 
 use crate::groups::{Checked, add_recipes, check_files};
 use crate::inner::take_inner;
-use crate::making::{Surroundings, make_justfile};
+use crate::justfiles::{Surroundings, make_justfile};
 use crate::notes::notes_at;
 use just_data::{Sequence, Shared, Text};
 use just_justfile::{Justfile, Recipes};
 use just_module_contents::Label;
 use just_module_headers::files::Files;
-use just_module_headers::joined::Joined;
+use just_module_headers::join::Joined;
 use just_parts::layers::{Ast, ConstantEvaluation, Error, Given, Number, Syntax};
 use std::alloc::{AllocError, Global};
 
@@ -93,7 +93,7 @@ fn analyze_checked<'b, 'src, S: Syntax, E: ConstantEvaluation>(
     requires settled { AreSettled (around_by surroundings gathered.recipes) }
     requires variables { AreVariablesOf (S.answers given.now.syntax.now) (contents_in checked.definitions) checked.variables }
     requires numbers { HasNumbers checked.variables }
-    requires covered { IsCovered checked }
+    requires covered { IsCheckedCovered checked }
     ensures analyzed { let layers = layers_at (given_by S.answers E.answers given.now) ast.now.module_path in
         let is = IsAnalyzedFrom layers ast.now checked.entry surroundings.entry in
         IfOk result (λ made. is (made_in gathered.entry) (made_in made.1) made.0) }

@@ -5,11 +5,11 @@
 ghost use Rattle.std.specs.Prelude.{◌≡◌, ◌<◌, IfErr, IfOk, OnOk, Some, length};
 ghost use Rattle.std.specs.List.{All};
 ghost use Rattle.just_compiler.specs.Checked.{HasConstants, IsChecked, no_links};
-ghost use Rattle.just_compiler.specs.Parts.{AreLinkedIn, BreaksChecked, BreaksOwn, IsCovered, TellsChecked, around_by, own_targets};
+ghost use Rattle.just_compiler.specs.Parts.{AreLinkedIn, BreaksChecked, BreaksOwn, IsCheckedCovered, TellsChecked, around_by, own_targets};
 ghost use Rattle.just_errors.specs.Causes.{Keeps, Reports};
 ghost use Rattle.just_graph.specs.Steps.{IsOnce};
 ghost use Rattle.just_justfile.specs.Walks.{AreOrdered};
-ghost use Rattle.just_module_contents.specs.Constants.{Docs, constant_expressions};
+ghost use Rattle.just_module_contents.specs.Constants.{BreaksDocs, constant_expressions};
 ghost use Rattle.just_module_contents.specs.Contents.{texts_of_named};
 ghost use Rattle.just_module_contents.specs.Defaults.{IsDefaultAmong};
 ghost use Rattle.just_module_contents.specs.Definitions.{contents_in, recipes_in, variables_in};
@@ -18,7 +18,7 @@ ghost use Rattle.just_module_contents.specs.Kept.{kept_recipes};
 ghost use Rattle.just_module_contents.specs.Labels.{label_by};
 ghost use Rattle.just_module_contents.specs.Named.{contents_from, naming_by, recipes_by, said_from, variable_by};
 ghost use Rattle.just_module_contents.specs.Resolved.{AreNew, HasPriors, unresolved_numbers};
-ghost use Rattle.just_module_contents.specs.Rules.{Bodies};
+ghost use Rattle.just_module_contents.specs.Rules.{BreaksBodies};
 ghost use Rattle.just_module_headers.specs.Analyzable.{assignment_numbers};
 ghost use Rattle.just_module_headers.specs.Files.{asts_in};
 ghost use Rattle.just_compiled.specs.Analysis.{recipe_table};
@@ -32,7 +32,7 @@ ghost use Rattle.just_names.specs.Index.{AreDifferent};
 ghost use Rattle.just_parts.specs.Evaluator.{values_of};
 ghost use Rattle.just_parts.specs.Layers.{given_by, layers_at};
 
-use crate::making::{OwnRecipes, Surroundings};
+use crate::justfiles::{OwnRecipes, Surroundings};
 use crate::notes::labels_at;
 use just_module_bodies::check_bodies;
 use just_module_contents::Label;
@@ -129,12 +129,12 @@ fn documented_at<'a, 'b, 'src, S: Syntax, E: ConstantEvaluation>(
     requires variables { AreVariablesOf (S.answers given.now.syntax.now) (contents_in definitions.now) variables.now }
     requires covered { CoversAll variables.now (values_of constants.now.scope) (constant_expressions (contents_in definitions.now)) }
     ensures kept { let m = contents_in definitions.now in
-        IfOk result (λ _. Keeps (Docs (S.answers given.now.syntax.now) (E.answers given.now.evaluation.now) m (values_of constants.now.scope))) }
+        IfOk result (λ _. Keeps (BreaksDocs (S.answers given.now.syntax.now) (E.answers given.now.evaluation.now) m (values_of constants.now.scope))) }
     ensures labels { let said = said_from label_by (S.answers given.now.syntax.now).enabled (asts_in files.now) places.now in
         let m = contents_in definitions.now in
         IfOk result (λ made. AreDocumentedIn (E.answers given.now.evaluation.now) m (values_of constants.now.scope) said made.items) }
     ensures named { let m = contents_in definitions.now in
-        IfErr result (Reports (Docs (S.answers given.now.syntax.now) (E.answers given.now.evaluation.now) m (values_of constants.now.scope))) }
+        IfErr result (Reports (BreaksDocs (S.answers given.now.syntax.now) (E.answers given.now.evaluation.now) m (values_of constants.now.scope))) }
 {
     let labels = labels_at(given.alloc, files, given.syntax, places)?;
     document(
@@ -197,9 +197,9 @@ fn link_recipes<'src, 'a, S: Syntax, E: ConstantEvaluation>(
     requires settled { AreSettled (around_by around.now recipes) }
     requires variables { AreVariablesOf (S.answers given.now.syntax.now) (contents_in checked.now.definitions) checked.now.variables }
     requires numbers { HasNumbers checked.now.variables }
-    requires covered { IsCovered checked.now }
+    requires covered { IsCheckedCovered checked.now }
     ensures bodies { let it = checked.now in
-        IfOk result (λ _. Keeps (Bodies (S.answers given.now.syntax.now) it.constants.settings (contents_in it.definitions))) }
+        IfOk result (λ _. Keeps (BreaksBodies (S.answers given.now.syntax.now) it.constants.settings (contents_in it.definitions))) }
     ensures kept { let kept = kept_recipes (recipes_in checked.now.definitions) in
         IfOk result (λ _. Keeps (BreaksLinks checked.now.constants.settings.lists kept (around_by around.now recipes.entry))) }
     ensures own { let layers = layers_at (given_by S.answers E.answers given.now) path.now in
@@ -257,7 +257,7 @@ pub fn add_recipes<'src, 'a, S: Syntax, E: ConstantEvaluation>(
     requires settled { AreSettled (around_by around.now recipes) }
     requires variables { AreVariablesOf (S.answers given.now.syntax.now) (contents_in checked.now.definitions) checked.now.variables }
     requires numbers { HasNumbers checked.now.variables }
-    requires covered { IsCovered checked.now }
+    requires covered { IsCheckedCovered checked.now }
     ensures kept { let layers = layers_at (given_by S.answers E.answers given.now) ast.now.module_path in
         IfOk result (λ _. Keeps (BreaksChecked layers checked.now (around_by around.now recipes.entry))) }
     ensures linked { let layers = layers_at (given_by S.answers E.answers given.now) ast.now.module_path in

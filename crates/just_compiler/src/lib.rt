@@ -7,7 +7,7 @@ pub mod compiler;
 mod compiling;
 mod groups;
 mod inner;
-mod making;
+mod justfiles;
 mod notes;
 mod paths;
 

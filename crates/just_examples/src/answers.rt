@@ -10,7 +10,9 @@ use just_analyzer::{Compilation, Compiler, Sources, is_clean};
 use just_bench::{PlainEvaluation, PlainSyntax, read_sources};
 use just_examples_answers::compiled::add_compiled;
 use just_examples_answers::held::{add_justfile, add_recipes};
+use just_examples_answers::listed::add_listed;
 use just_examples_answers::requests::add_requests;
+use just_examples_answers::shown::add_shown;
 use just_examples_answers::variables::add_variable;
 use just_examples_answers::walks::add_walk;
 use just_examples_answers::{add_items, answer_text, read_pairs};
@@ -96,6 +98,8 @@ fn add_compilation<'pairs>(
             asked,
             text,
         ),
+        "list" => add_listed(justfile, recipes, alloc, word, text),
+        "show" => add_shown(justfile, recipes, alloc, word, text),
         "variable" => add_variable(alloc, justfile, word, text),
         "Compilation::root_ast" => add_items(text, compilation.root_ast().items.as_slice()),
         "Justfile::name" | "Justfile::is_submodule" => add_justfile(justfile, kind, text),
@@ -156,6 +160,8 @@ pub fn answer(alloc: Global, bundle: &str, question: &str) -> Result<Option<Stri
     let (kind, rest) = question.split_once(' ').unwrap_or((question, ""));
     match kind {
         "just"
+        | "list"
+        | "show"
         | "variable"
         | "Compilation::root_ast"
         | "Evaluation::assignments"

@@ -9,10 +9,12 @@ mod copies;
 mod entries;
 pub mod held;
 mod items;
+pub mod listed;
 mod readings;
 mod recorders;
 pub mod requests;
 mod runs;
+pub mod shown;
 pub mod variables;
 pub mod walks;
 

@@ -1,5 +1,5 @@
 //! Where paths lead from the root's module of a compilation. The names of a path are those of the parameters of a recipe.
-ghost use Rattle.just_justfile.specs.Walks.{IsOrdered};
+ghost use Rattle.just_justfile.specs.Walks.{AreModulesOrdered};
 
 use just_data::Sequence;
 use just_justfile::{Justfile, RecipeAlias, Recipes, Resolution};
@@ -68,7 +68,7 @@ fn add_resolved_recipe<'src>(
     path: &Namepath<'src>,
     text: &mut String,
 ) -> Result<(), AllocError>
-    requires { IsOrdered root.now }
+    requires { AreModulesOrdered root.now }
 {
     let found = Resolution::resolve_recipe(
         alloc,
@@ -92,7 +92,7 @@ fn add_resolved_module<'src>(
     path: &Namepath<'src>,
     text: &mut String,
 ) -> Result<(), AllocError>
-    requires { IsOrdered root.now }
+    requires { AreModulesOrdered root.now }
 {
     let modules = root.modules.as_slice();
     match Resolution::resolve_module(alloc, path, &root.absent_modules, modules)? {
@@ -109,7 +109,7 @@ fn add_submodule<'src>(
     path: &Namepath<'src>,
     text: &mut String,
 ) -> Result<(), AllocError>
-    requires { IsOrdered root.now }
+    requires { AreModulesOrdered root.now }
 {
     let path = Modulepath::from_namepath(alloc, path)?;
     match root.submodule(&path) {
@@ -128,7 +128,7 @@ pub fn add_walk<'src>(
     name: &str,
     text: &mut String,
 ) -> Result<(), AllocError>
-    requires { IsOrdered root.now }
+    requires { AreModulesOrdered root.now }
 {
     match call {
         "Justfile::recipe" => return add_recipe(root.recipe(recipes, name), text),

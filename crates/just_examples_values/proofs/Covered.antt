@@ -8,14 +8,14 @@ use Rattle.just_ast_expressions.specs.declared.expression.Expression.{Expression
 use Rattle.just_ast_expressions.specs.declared.scope.Scope.{Scope}
 use Rattle.just_names.specs.Texts.{Text}
 use Rattle.just_parts.specs.Known.{Known, none_hidden}
-use Rattle.just_run_layers.specs.Covering.{AreCovered, Covers, IsCovered, binds, hidden_after}
+use Rattle.just_run_layers.specs.Covering.{AreParametersCovered, BindsRead, IsCovered, binds, hidden_after}
 use Rattle.just_table.specs.Entries.{find}
 
 module _ (m : Known) (scope : Scope) (all : (name : Text) (a : Assignment) → find name m.assignments ≡ Some a → binds scope a.number ≡ true) where
-  covers : (hidden : Text → Bool) (e : Expression) → Covers m hidden scope e
+  covers : (hidden : Text → Bool) (e : Expression) → BindsRead m hidden scope e
   covers hidden e name a reads found = all name a found
 
-  optional : (hidden : Text → Bool) (o : Option Expression) → IfSome o (Covers m hidden scope)
+  optional : (hidden : Text → Bool) (o : Option Expression) → IfSome o (BindsRead m hidden scope)
   optional hidden None = tt
   optional hidden (Some e) = covers hidden e
 
@@ -25,6 +25,6 @@ module _ (m : Known) (scope : Scope) (all : (name : Text) (a : Assignment) → f
   pub covers_each : (es : List Expression) → All (IsCovered m scope) es
   covers_each es = λ k d l. covers_one _
 
-  pub covers_parameters : (hidden : Text → Bool) (ps : List Parameter) → AreCovered m scope hidden ps
+  pub covers_parameters : (hidden : Text → Bool) (ps : List Parameter) → AreParametersCovered m scope hidden ps
   covers_parameters hidden [] = tt
   covers_parameters hidden (p ∷ ps) = (optional hidden p.default, (optional hidden p.value, covers_parameters (hidden_after hidden p) ps))

@@ -1,6 +1,6 @@
 //! What is answered, by the name of a call.
 ghost use Rattle.just_parts.specs.Needs.{HaveNumbersApart};
-ghost use Rattle.just_run_layers.specs.Covering.{HasOrder, module_of};
+ghost use Rattle.just_run_layers.specs.Covering.{HasEvaluationOrder, module_of};
 ghost use Rattle.just_examples_values.specs.Bound.{BindsAll, IsInOrder, TellApart};
 
 use crate::bodies::{add_lines, add_values};
@@ -28,7 +28,7 @@ fn context_of<'a, 'src>(
 ) -> Context<'a, 'src>
     requires order { IsInOrder «module».now }
     requires apart { TellApart «module».now }
-    ensures order { HasOrder result }
+    ensures order { HasEvaluationOrder result }
     ensures apart { HaveNumbersApart (module_of result) }
 {
     Context {
@@ -83,7 +83,7 @@ fn add_among_all<'src, S: Syntax, E: Evaluation>(
     handed: &Handed,
     text: &mut String,
 ) -> Result<(), Refusal>
-    requires { HasOrder context.now }
+    requires { HasEvaluationOrder context.now }
 {
     let scope = all_values(alloc, evaluation, context)?;
     if call == "environment" {

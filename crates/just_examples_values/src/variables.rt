@@ -1,7 +1,7 @@
 //! The values of the variables of a module.
 ghost use Rattle.std.specs.Prelude.{IfOk, Some};
 ghost use Rattle.just_parts.specs.Needs.{HaveNumbersApart};
-ghost use Rattle.just_run_layers.specs.Covering.{HasOrder, IsClosedIn, module_of};
+ghost use Rattle.just_run_layers.specs.Covering.{HasEvaluationOrder, IsClosedIn, module_of};
 ghost use Rattle.just_run_layers.specs.Evaluation.{set_of};
 ghost use Rattle.just_examples_values.specs.Bound.{BindsAll};
 
@@ -45,7 +45,7 @@ pub fn all_values<'src, E: Evaluation>(
     evaluation: &mut E,
     context: &Context<'_, 'src>,
 ) -> Result<Scope<'src>, Refusal>
-    requires { HasOrder context.now }
+    requires { HasEvaluationOrder context.now }
     ensures { IfOk result (BindsAll context.now) }
 {
     evaluation.assignments(alloc, context, &no_values(), None)
@@ -59,7 +59,7 @@ fn add_set<'src, E: Evaluation>(
     set: &Shared<HashSet<Number>>,
     text: &mut String,
 ) -> Result<(), Refusal>
-    requires order { HasOrder context.now }
+    requires order { HasEvaluationOrder context.now }
     requires closed { IsClosedIn context.now (set_of (Some set)) }
 {
     let scope = evaluation.assignments(alloc, context, &no_values(), Some(set))?;
@@ -74,7 +74,7 @@ fn add_needed<'src, E: Evaluation>(
     name: &str,
     text: &mut String,
 ) -> Result<(), Refusal>
-    requires order { HasOrder context.now }
+    requires order { HasEvaluationOrder context.now }
     requires apart { HaveNumbersApart (module_of context.now) }
 {
     let tables = Tables {
@@ -98,7 +98,7 @@ pub fn add_variables<'src, E: Evaluation>(
     name: Option<&str>,
     text: &mut String,
 ) -> Result<(), Refusal>
-    requires order { HasOrder context.now }
+    requires order { HasEvaluationOrder context.now }
     requires apart { HaveNumbersApart (module_of context.now) }
 {
     if let Some(name) = name {

@@ -19,11 +19,11 @@ use Rattle.just_recipes.specs.Places.{place_of}
 use Rattle.just_run_layers.specs.declared.held.Held.{Held}
 use Rattle.just_run_layers.specs.Evaluation.{Inquiry, Parameters, ScopeRequest, Surroundings, Value}
 use Rattle.just_run_layers.specs.Host.{Answer, Answers, Done, Given, Valued, Scoped, Bound, Paired, Changed, Ran, Refused}
-use Rattle.just_run_layers.specs.Steps.{Give, and_then, Gives, kept_by}
-use Rattle.just_run_layers.proofs.StepLemmas.{took-asked}
+use Rattle.just_run_layers.specs.Interactions.{Return, and_then, CanReturn, log_of}
+use Rattle.just_run_layers.proofs.InteractionLemmas.{took-asked}
 use Rattle.just_execution.specs.Account.{AreNamed, StandFor}
 use Rattle.just_execution.specs.Arguments.{argument_steps, dependencies_steps, dependency_steps, group_steps, groups_steps, spread, task_at, tasks_with, texts_given, texts_steps, value_steps, valued_answered, with_text}
-use Rattle.just_execution.specs.Leaves.{AsksAlone, after_steps, ask_in, ask_steps, bound_answered, consent_by, consent_steps, follow_in, follow_steps, held_steps, parameters_steps, prepare_steps, prior_steps, surrounded}
+use Rattle.just_execution.specs.TaskInteractions.{AsksAlone, after_steps, ask_in, ask_steps, bound_answered, consent_by, consent_steps, follow_in, follow_steps, held_steps, parameters_steps, prepare_steps, prior_steps, surrounded}
 use Rattle.just_execution.specs.Pairs.{prior_dependencies, subsequent_dependencies}
 use Rattle.just_execution.specs.Scene.{ModuleContents, Scene}
 use Rattle.just_execution.specs.Walking.{Prepared}
@@ -59,13 +59,13 @@ bound-quiet (Refused message) = failed-not _
 
 module _ (recipes : List (Recipe Dependency)) (s : Surroundings) where
   argument-quiet : (a : DependencyArgument) → Quiet (argument_steps s a)
-  argument-quiet a = (refl, λ answer. quiet-then (valued_answered answer) (λ value. Give (texts_given s.context.settings.lists value)) (valued-quiet answer) (λ value. tt))
+  argument-quiet a = (refl, λ answer. quiet-then (valued_answered answer) (λ value. Return (texts_given s.context.settings.lists value)) (valued-quiet answer) (λ value. tt))
 
   group-quiet : (arguments : List DependencyArgument) → Quiet (group_steps s arguments)
-  group-quiet arguments = quiet-then (texts_steps s arguments) (λ texts. Give (texts ∷ [])) (quiet-gathered (argument_steps s) argument-quiet arguments) (λ texts. tt)
+  group-quiet arguments = quiet-then (texts_steps s arguments) (λ texts. Return (texts ∷ [])) (quiet-gathered (argument_steps s) argument-quiet arguments) (λ texts. tt)
 
   dependency-quiet : (d : Dependency) → Quiet (dependency_steps recipes s d)
-  dependency-quiet d = quiet-then (groups_steps s d.arguments) (λ groups. Give (tasks_with recipes d groups)) (quiet-gathered (group_steps s) group-quiet d.arguments) (λ groups. tt)
+  dependency-quiet d = quiet-then (groups_steps s d.arguments) (λ groups. Return (tasks_with recipes d groups)) (quiet-gathered (group_steps s) group-quiet d.arguments) (λ groups. tt)
 
   dependencies-quiet : (ds : List Dependency) → Quiet (dependencies_steps recipes s ds)
   dependencies-quiet ds = quiet-gathered (dependency_steps recipes s) dependency-quiet ds
@@ -77,7 +77,7 @@ module _ (scene : Scene) (t : Task) where
     refl,
     λ answer. quiet-then (bound_answered answer) (held_steps scene.syntax scene.recipes t r m) (bound-quiet answer)
         (λ h. quiet-then (consent_steps (consent_by scene.syntax t r m h)) (λ _. prior_steps scene.recipes t r m h) (consent-quiet (consent_by scene.syntax t r m h))
-        (λ _. quiet-then (dependencies_steps scene.recipes (surrounded m t h) (take r.priors r.dependencies)) (λ ps. Give (record { held = h; priors = ps }))
+        (λ _. quiet-then (dependencies_steps scene.recipes (surrounded m t h) (take r.priors r.dependencies)) (λ ps. Return (record { held = h; priors = ps }))
         (dependencies-quiet scene.recipes (surrounded m t h) (take r.priors r.dependencies)) (λ ps. tt))),
   )
 
@@ -112,49 +112,49 @@ stands-for recipes d groups =
       once = λ none. length-map (spread (position has_star d.arguments) groups) (task_at (place_of recipes d.recipe.0)) ∙ once-spread (position has_star d.arguments) groups none;
     }
 
-dependency-stands : (recipes : List (Recipe Dependency)) (s : Surroundings) (d : Dependency) (ts : List Task) → Gives (dependency_steps recipes s d) ts → StandFor recipes d ts
+dependency-stands : (recipes : List (Recipe Dependency)) (s : Surroundings) (d : Dependency) (ts : List Task) → CanReturn (dependency_steps recipes s d) ts → StandFor recipes d ts
 dependency-stands recipes s d ts g =
-    let r = gives-split (groups_steps s d.arguments) (λ groups. Give (tasks_with recipes d groups)) ts g in
+    let r = gives-split (groups_steps s d.arguments) (λ groups. Return (tasks_with recipes d groups)) ts g in
     subst (StandFor recipes d) r.2 (stands-for recipes d r.0)
 
-pub dependencies-named : (recipes : List (Recipe Dependency)) (s : Surroundings) (ds : List Dependency) (ts : List Task) → Gives (dependencies_steps recipes s ds) ts → AreNamed recipes ds ts
+pub dependencies-named : (recipes : List (Recipe Dependency)) (s : Surroundings) (ds : List Dependency) (ts : List Task) → CanReturn (dependencies_steps recipes s ds) ts → AreNamed recipes ds ts
 dependencies-named recipes s [] ts g = sym g
 dependencies-named recipes s (d ∷ ds) ts g =
-    let first = gives-split (dependency_steps recipes s d) (λ ys. and_then (dependencies_steps recipes s ds) (λ more. Give (ys ++ more))) ts g in
-    let rest = gives-split (dependencies_steps recipes s ds) (λ more. Give (first.0 ++ more)) ts first.2 in
+    let first = gives-split (dependency_steps recipes s d) (λ ys. and_then (dependencies_steps recipes s ds) (λ more. Return (ys ++ more))) ts g in
+    let rest = gives-split (dependencies_steps recipes s ds) (λ more. Return (first.0 ++ more)) ts first.2 in
     (first.0, rest.0, sym rest.2, dependency-stands recipes s d first.0 first.1, dependencies-named recipes s ds rest.0 rest.1)
 
 -- whatever asking comes to, the priors are of the recipes that the recipe names, and so are the subsequents
 module _ (scene : Scene) (t : Task) where
-  prior-named : (r : Recipe Dependency) (m : ModuleContents) (h : Held) (a : Prepared) → Gives (prior_steps scene.recipes t r m h) a → AreNamed scene.recipes (take r.priors r.dependencies) a.priors
+  prior-named : (r : Recipe Dependency) (m : ModuleContents) (h : Held) (a : Prepared) → CanReturn (prior_steps scene.recipes t r m h) a → AreNamed scene.recipes (take r.priors r.dependencies) a.priors
   prior-named r m h a g =
       let ds : List Dependency = take r.priors r.dependencies in
-      let x = gives-split (dependencies_steps scene.recipes (surrounded m t h) ds) (λ ps. Give (record { held = h; priors = ps })) a g in
+      let x = gives-split (dependencies_steps scene.recipes (surrounded m t h) ds) (λ ps. Return (record { held = h; priors = ps })) a g in
       subst (AreNamed scene.recipes ds) (ap (λ (a : Prepared). a.priors) x.2) (dependencies-named scene.recipes (surrounded m t h) ds x.0 x.1)
 
-  held-named : (r : Recipe Dependency) (m : ModuleContents) (h : Held) (a : Prepared) → Gives (held_steps scene.syntax scene.recipes t r m h) a → AreNamed scene.recipes (take r.priors r.dependencies) a.priors
+  held-named : (r : Recipe Dependency) (m : ModuleContents) (h : Held) (a : Prepared) → CanReturn (held_steps scene.syntax scene.recipes t r m h) a → AreNamed scene.recipes (take r.priors r.dependencies) a.priors
   held-named r m h a g = let x = gives-split (consent_steps (consent_by scene.syntax t r m h)) (λ _. prior_steps scene.recipes t r m h) a g in prior-named r m h a x.2
 
-  ask_in-named : (r : Recipe Dependency) (o : Option ModuleContents) (a : Prepared) → Gives (ask_in scene.syntax scene.recipes t r o) a → AreNamed scene.recipes (take r.priors r.dependencies) a.priors
+  ask_in-named : (r : Recipe Dependency) (o : Option ModuleContents) (a : Prepared) → CanReturn (ask_in scene.syntax scene.recipes t r o) a → AreNamed scene.recipes (take r.priors r.dependencies) a.priors
   ask_in-named r None a g = absurd g
   ask_in-named r (Some m) a g = let x = gives-split (parameters_steps r t m) (held_steps scene.syntax scene.recipes t r m) a g in held-named r m x.0 a x.2
 
-  prepare-named : (o : Option (Recipe Dependency)) → slice_get scene.recipes t.pair.recipe ≡ o → (a : Prepared) → Gives (prepare_steps scene t o) a → AreNamed scene.recipes (prior_dependencies scene.recipes t.pair.recipe) a.priors
+  prepare-named : (o : Option (Recipe Dependency)) → slice_get scene.recipes t.pair.recipe ≡ o → (a : Prepared) → CanReturn (prepare_steps scene t o) a → AreNamed scene.recipes (prior_dependencies scene.recipes t.pair.recipe) a.priors
   prepare-named None at a g = absurd g
   prepare-named (Some r) at a g = subst (λ (ds : List Dependency). AreNamed scene.recipes ds a.priors) (sym (at-place (λ r. take r.priors r.dependencies) scene.recipes t.pair.recipe r at)) (ask_in-named r (scene.modules r.module_path) a g)
 
-  pub ask-named : (a : Prepared) → Gives (ask_steps scene t) a → AreNamed scene.recipes (prior_dependencies scene.recipes t.pair.recipe) a.priors
+  pub ask-named : (a : Prepared) → CanReturn (ask_steps scene t) a → AreNamed scene.recipes (prior_dependencies scene.recipes t.pair.recipe) a.priors
   ask-named a g = prepare-named (slice_get scene.recipes t.pair.recipe) refl a g
 
-  follow_in-named : (h : Held) (r : Recipe Dependency) (o : Option ModuleContents) (ts : List Task) → Gives (follow_in scene.recipes t h r o) ts → AreNamed scene.recipes (drop r.priors r.dependencies) ts
+  follow_in-named : (h : Held) (r : Recipe Dependency) (o : Option ModuleContents) (ts : List Task) → CanReturn (follow_in scene.recipes t h r o) ts → AreNamed scene.recipes (drop r.priors r.dependencies) ts
   follow_in-named h r None ts g = absurd g
   follow_in-named h r (Some m) ts g = dependencies-named scene.recipes (surrounded m t h) (drop r.priors r.dependencies) ts g
 
-  after-named : (h : Held) (o : Option (Recipe Dependency)) → slice_get scene.recipes t.pair.recipe ≡ o → (ts : List Task) → Gives (after_steps scene t h o) ts → AreNamed scene.recipes (subsequent_dependencies scene.recipes t.pair.recipe) ts
+  after-named : (h : Held) (o : Option (Recipe Dependency)) → slice_get scene.recipes t.pair.recipe ≡ o → (ts : List Task) → CanReturn (after_steps scene t h o) ts → AreNamed scene.recipes (subsequent_dependencies scene.recipes t.pair.recipe) ts
   after-named h None at ts g = absurd g
   after-named h (Some r) at ts g = subst (λ (ds : List Dependency). AreNamed scene.recipes ds ts) (sym (at-place (λ r. drop r.priors r.dependencies) scene.recipes t.pair.recipe r at)) (follow_in-named h r (scene.modules r.module_path) ts g)
 
-  pub follow-named : (h : Held) (ts : List Task) → Gives (follow_steps scene t h) ts → AreNamed scene.recipes (subsequent_dependencies scene.recipes t.pair.recipe) ts
+  pub follow-named : (h : Held) (ts : List Task) → CanReturn (follow_steps scene t h) ts → AreNamed scene.recipes (subsequent_dependencies scene.recipes t.pair.recipe) ts
   follow-named h ts g = after-named h (slice_get scene.recipes t.pair.recipe) refl ts g
 
 -- what holds of the place of each recipe that is named holds of the tasks
@@ -174,23 +174,23 @@ module _ (s : Surroundings) (group given : List DependencyArgument) (is : given 
   group-given texts took = subst (λ (g : List DependencyArgument). AsksAlone e (group_steps s g) before later (Ok (texts ∷ []))) is (alone-map e (texts_steps s given) (λ texts. texts ∷ []) before later texts took)
 
   pub group-failed : (f : Halt) → AsksAlone e (texts_steps s given) before later (Err f) → AsksAlone e (group_steps s group) before later (Err f)
-  group-failed f took = subst (λ (g : List DependencyArgument). AsksAlone e (group_steps s g) before later (Err f)) is (alone-stop e (texts_steps s given) (λ texts. Give (texts ∷ [])) before later f took)
+  group-failed f took = subst (λ (g : List DependencyArgument). AsksAlone e (group_steps s g) before later (Err f)) is (alone-stop e (texts_steps s given) (λ texts. Return (texts ∷ [])) before later f took)
 
 module _ (recipes : List (Recipe Dependency)) (s : Surroundings) (d : Dependency) (given : List (List DependencyArgument)) (is : given ≡ d.arguments) (e : Inquiry → Option Answer) (before later : List ScopeRequest) where
   pub dependency-given : (groups : List (List Text)) → AsksAlone e (groups_steps s given) before later (Ok groups) → AsksAlone e (dependency_steps recipes s d) before later (Ok (tasks_with recipes d groups))
   dependency-given groups took = alone-map e (groups_steps s d.arguments) (tasks_with recipes d) before later groups (subst (λ (g : List (List DependencyArgument)). AsksAlone e (groups_steps s g) before later (Ok groups)) is took)
 
   pub dependency-failed : (f : Halt) → AsksAlone e (groups_steps s given) before later (Err f) → AsksAlone e (dependency_steps recipes s d) before later (Err f)
-  dependency-failed f took = alone-stop e (groups_steps s d.arguments) (λ groups. Give (tasks_with recipes d groups)) before later f (subst (λ (g : List (List DependencyArgument)). AsksAlone e (groups_steps s g) before later (Err f)) is took)
+  dependency-failed f took = alone-stop e (groups_steps s d.arguments) (λ groups. Return (tasks_with recipes d groups)) before later f (subst (λ (g : List (List DependencyArgument)). AsksAlone e (groups_steps s g) before later (Err f)) is took)
 
 -- a question to the evaluator, as it was answered
 module _ (e : Inquiry → Option Answer) (before later : List ScopeRequest) (still : later ≡ before) where
   module _ (s : Surroundings) (x : Expression) where
     pub value-given : (value : List Text) → Answers (e (Value s x)) (Some (Valued value)) → AsksAlone e (value_steps s x) before later (Ok value)
-    value-given value a = λ host entries. took-asked e host (Value s x) valued_answered (Valued value) entries before later (kept_by entries later) (Ok value) refl a still (refl, inl refl)
+    value-given value a = λ host entries. took-asked e host (Value s x) valued_answered (Valued value) entries before later (log_of entries later) (Ok value) refl a still (refl, inl refl)
 
     pub value-refused : (fault : Fault) (o : Option Answer) → o ≡ Some (Refused fault.message) → Answers (e (Value s x)) o → AsksAlone e (value_steps s x) before later (Err (Failed (Evaluate fault)))
-    value-refused fault o is a = λ host entries. took-asked e host (Value s x) valued_answered (Refused fault.message) entries before later (kept_by entries later) (Err (Failed (Evaluate fault))) refl (subst (Answers (e (Value s x))) is a) still (refl, inl refl)
+    value-refused fault o is a = λ host entries. took-asked e host (Value s x) valued_answered (Refused fault.message) entries before later (log_of entries later) (Err (Failed (Evaluate fault))) refl (subst (Answers (e (Value s x))) is a) still (refl, inl refl)
 
   module _ (r : Recipe Dependency) (t : Task) (m : ModuleContents) where
     abbrev question : List Parameter → Text → Inquiry
@@ -201,11 +201,11 @@ module _ (e : Inquiry → Option Answer) (before later : List ScopeRequest) (sti
       same-question = λ i. question (are i) (is i)
 
       pub parameters-given : (h : Held) → Answers (e (question ps name)) (Some (Bound h)) → AsksAlone e (parameters_steps r t m) before later (Ok h)
-      parameters-given h a = λ host entries. took-asked e host (question r.parameters (lexeme r.name.token)) bound_answered (Bound h) entries before later (kept_by entries later) (Ok h) refl
+      parameters-given h a = λ host entries. took-asked e host (question r.parameters (lexeme r.name.token)) bound_answered (Bound h) entries before later (log_of entries later) (Ok h) refl
           (subst (λ q. Answers (e q) (Some (Bound h))) same-question a) still (refl, inl refl)
 
       pub parameters-refused : (fault : Fault) (o : Option Answer) → o ≡ Some (Refused fault.message) → Answers (e (question ps name)) o → AsksAlone e (parameters_steps r t m) before later (Err (Failed (Evaluate fault)))
-      parameters-refused fault o told a = λ host entries. took-asked e host (question r.parameters (lexeme r.name.token)) bound_answered (Refused fault.message) entries before later (kept_by entries later) (Err (Failed (Evaluate fault))) refl
+      parameters-refused fault o told a = λ host entries. took-asked e host (question r.parameters (lexeme r.name.token)) bound_answered (Refused fault.message) entries before later (log_of entries later) (Err (Failed (Evaluate fault))) refl
           (subst (λ q. Answers (e q) (Some (Refused fault.message))) same-question (subst (Answers (e (question ps name))) told a)) still (refl, inl refl)
 
 -- the texts of the group at a place

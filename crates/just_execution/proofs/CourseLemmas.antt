@@ -3,18 +3,18 @@ use Rattle.std.specs.List.{All}
 use Rattle.std.proofs.Common.{◌≡◌, ◌≢◌, ℕ, zero, suc, ◌+◌, ◌^◌, ◌<◌, ◌≤◌, List, [], ◌∷◌, ◌++◌, length, get_or, set, refl, sym, ◌∙◌, ap, subst, arith, append_assoc}
 use Rattle.std.proofs.lemmas.List.{length_push}
 use Rattle.std.proofs.lemmas.List.Elements.{All-nil, All-cons, All-append, All-head, All-tail, All-weaker}
-use Rattle.just_run_layers.specs.Steps.{Steps, and_then}
+use Rattle.just_run_layers.specs.Interactions.{Interaction, and_then}
 use Rattle.just_run_layers.specs.declared.held.Held.{Held}
 use Rattle.just_execution.specs.declared.course.Course.{Course}
 use Rattle.just_execution.specs.declared.frame.Frame.{Frame}
 use Rattle.just_execution.specs.declared.frame.Frame.TheVariants.{Call, Block, Back}
 use Rattle.just_execution.specs.declared.frame.OpenTable.{OpenTable}
 use Rattle.just_execution.specs.declared.pair.Pair.{Pair}
-use Rattle.just_execution.specs.Frames.{walk_at, with_calls, under, left, calls_of, IsOpen, AreOpen, state_of, IsSound, IsLighter, IsOpened, left_of}
+use Rattle.just_execution.specs.Frames.{walk_at, with_calls, under, continuation_from, calls_of, IsSoundFrame, AreSoundFrames, state_of, IsSound, IsLighter, IsOpened, continuation_of}
 use Rattle.just_execution.specs.Homes.{IsCallable, IsServed}
 use Rattle.just_execution.specs.declared.task.Task.{Task}
 use Rattle.just_execution.specs.Pairs.{AllBelow, put, table_of}
-use Rattle.just_execution.specs.Walking.{Leaves, State, add_at, counted, opened, fresh_steps, ran}
+use Rattle.just_execution.specs.Walking.{TaskInteractions, State, add_at, counted, opened, fresh_steps, ran}
 use Rattle.just_execution.proofs.FrameLemmas.{opened-left}
 use Rattle.just_execution.proofs.WeightLemmas.{block-lighter, taken-lighter}
 use Rattle.just_execution.proofs.Joined.{length-add}
@@ -30,10 +30,10 @@ calls-last [] t = refl
 calls-last (u ∷ ts) t = ap (λ x. x ++ Call u ∷ []) (calls-last ts t)
 
 -- one more task is called
-pub one-called : (frames more all : List Frame) (left right : List Task) (t : Task) → right ≡ left ++ t ∷ [] → more ≡ frames ++ Call t ∷ [] → frames ++ calls_of right ≡ all → more ++ calls_of left ≡ all
-one-called frames more all left right t is pushed h =
-    ap (λ x. x ++ calls_of left) pushed ∙ append_assoc frames (Call t ∷ []) (calls_of left)
-    ∙ ap (λ x. frames ++ x) (sym (calls-last left t) ∙ ap calls_of (sym is)) ∙ h
+pub one-called : (frames more all : List Frame) (older right : List Task) (t : Task) → right ≡ older ++ t ∷ [] → more ≡ frames ++ Call t ∷ [] → frames ++ calls_of right ≡ all → more ++ calls_of older ≡ all
+one-called frames more all older right t is pushed h =
+    ap (λ x. x ++ calls_of older) pushed ∙ append_assoc frames (Call t ∷ []) (calls_of older)
+    ∙ ap (λ x. frames ++ x) (sym (calls-last older t) ∙ ap calls_of (sym is)) ∙ h
 
 -- a frame is put in, and tasks are called above it
 pub pushed-calls : (one xs : List Frame) (x : Frame) (ts : List Task) (all : List Frame) → one ≡ xs ++ x ∷ [] → all ≡ one ++ calls_of ts → all ≡ xs ++ x ∷ calls_of ts
@@ -43,34 +43,34 @@ pub first-calls : (one all : List Frame) (ts : List Task) → one ≡ [] → all
 first-calls one all ts none h = h ∙ ap (λ xs. xs ++ calls_of ts) none
 
 -- the frames that are open stay so while counters are added
-open-more : (P : Task → Type 0) (Q : Task → Held → Type 0) (n m : ℕ) → n ≤ m → (x : Frame) → IsOpen P Q n x → IsOpen P Q m x
+open-more : (P : Task → Type 0) (Q : Task → Held → Type 0) (n m : ℕ) → n ≤ m → (x : Frame) → IsSoundFrame P Q n x → IsSoundFrame P Q m x
 open-more P Q n m l (Call t) h = h
 open-more P Q n m l (Block t x) h = h
 open-more P Q n m l (Back outer) h = omega arith
 
-pub opens-more : (P : Task → Type 0) (Q : Task → Held → Type 0) (n m : ℕ) → n ≤ m → (xs : List Frame) → AreOpen P Q n xs → AreOpen P Q m xs
-opens-more P Q n m l xs h = All-weaker (IsOpen P Q n) (IsOpen P Q m) (open-more P Q n m l) xs h
+pub opens-more : (P : Task → Type 0) (Q : Task → Held → Type 0) (n m : ℕ) → n ≤ m → (xs : List Frame) → AreSoundFrames P Q n xs → AreSoundFrames P Q m xs
+opens-more P Q n m l xs h = All-weaker (IsSoundFrame P Q n) (IsSoundFrame P Q m) (open-more P Q n m l) xs h
 
 -- tasks below a place are open above other frames
-pub opens-calls : (P : Task → Type 0) (Q : Task → Held → Type 0) (n : ℕ) (ts : List Task) → All P ts → AreOpen P Q n (calls_of ts)
-opens-calls P Q n [] b = All-nil (IsOpen P Q n)
-opens-calls P Q n (t ∷ ts) b = All-append (IsOpen P Q n) (calls_of ts) (Call t ∷ [])
+pub opens-calls : (P : Task → Type 0) (Q : Task → Held → Type 0) (n : ℕ) (ts : List Task) → All P ts → AreSoundFrames P Q n (calls_of ts)
+opens-calls P Q n [] b = All-nil (IsSoundFrame P Q n)
+opens-calls P Q n (t ∷ ts) b = All-append (IsSoundFrame P Q n) (calls_of ts) (Call t ∷ [])
     (opens-calls P Q n ts (All-tail P t ts b))
-    (All-cons (IsOpen P Q n) (Call t) [] (All-head P t ts b) (All-nil (IsOpen P Q n)))
+    (All-cons (IsSoundFrame P Q n) (Call t) [] (All-head P t ts b) (All-nil (IsSoundFrame P Q n)))
 
-pub opens-over : (P : Task → Type 0) (Q : Task → Held → Type 0) (n : ℕ) (xs : List Frame) (x : Frame) (ts : List Task) → AreOpen P Q n xs → IsOpen P Q n x → All P ts → AreOpen P Q n (xs ++ x ∷ calls_of ts)
-opens-over P Q n xs x ts h k b = All-append (IsOpen P Q n) xs (x ∷ calls_of ts) h (All-cons (IsOpen P Q n) x (calls_of ts) k (opens-calls P Q n ts b))
+pub opens-over : (P : Task → Type 0) (Q : Task → Held → Type 0) (n : ℕ) (xs : List Frame) (x : Frame) (ts : List Task) → AreSoundFrames P Q n xs → IsSoundFrame P Q n x → All P ts → AreSoundFrames P Q n (xs ++ x ∷ calls_of ts)
+opens-over P Q n xs x ts h k b = All-append (IsSoundFrame P Q n) xs (x ∷ calls_of ts) h (All-cons (IsSoundFrame P Q n) x (calls_of ts) k (opens-calls P Q n ts b))
 
 -- tasks are called under a table of their own
-left-opened : (leaves : Leaves) (xs : List Frame) (outer : OpenTable) (tasks : List Task) (calls : List ℕ) → tasks ≢ [] →
-    left leaves (xs ++ Back outer ∷ calls_of tasks) (opened calls) ≡ and_then (fresh_steps (walk_at leaves) tasks calls) (λ calls. left leaves xs (under outer calls))
-left-opened leaves xs outer [] calls some = absurd (some refl)
-left-opened leaves xs outer (t ∷ ts) calls some = opened-left leaves xs outer t ts calls
+left-opened : (of_task : TaskInteractions) (xs : List Frame) (outer : OpenTable) (tasks : List Task) (calls : List ℕ) → tasks ≢ [] →
+    continuation_from of_task (xs ++ Back outer ∷ calls_of tasks) (opened calls) ≡ and_then (fresh_steps (walk_at of_task) tasks calls) (λ calls. continuation_from of_task xs (under outer calls))
+left-opened of_task xs outer [] calls some = absurd (some refl)
+left-opened of_task xs outer (t ∷ ts) calls some = opened-left of_task xs outer t ts calls
 
 module _ (old new : Course) (tasks : List Task) (frames : new.frames.items ≡ old.frames.items ++ Back old.current ∷ calls_of tasks) (state : state_of new ≡ opened old.calls.items) where
-  course-opened : tasks ≢ [] → (leaves : Leaves) → left_of leaves new ≡ and_then (fresh_steps (walk_at leaves) tasks old.calls.items) (λ calls. left leaves old.frames.items (with_calls (state_of old) calls))
-  course-opened some leaves = ap (λ xs. left leaves xs (state_of new)) frames ∙ ap (left leaves (old.frames.items ++ Back old.current ∷ calls_of tasks)) state
-      ∙ left-opened leaves old.frames.items old.current tasks old.calls.items some
+  course-opened : tasks ≢ [] → (of_task : TaskInteractions) → continuation_of of_task new ≡ and_then (fresh_steps (walk_at of_task) tasks old.calls.items) (λ calls. continuation_from of_task old.frames.items (with_calls (state_of old) calls))
+  course-opened some of_task = ap (λ xs. continuation_from of_task xs (state_of new)) frames ∙ ap (continuation_from of_task (old.frames.items ++ Back old.current ∷ calls_of tasks)) state
+      ∙ left-opened of_task old.frames.items old.current tasks old.calls.items some
 
   sound-opened : (P : Task → Type 0) (Q : Task → Held → Type 0) → IsSound P Q old → All P tasks → IsSound P Q new
   sound-opened P Q sound below =
@@ -78,7 +78,7 @@ module _ (old new : Course) (tasks : List Task) (frames : new.frames.items ≡ o
       let more : length new.calls.items ≡ length old.calls.items + 1 = ap length calls ∙ length_push old.calls.items 0 in
       let number : new.current.number ≡ length old.calls.items = ap (λ s. s.number) state in
       record {
-        frames = subst (AreOpen P Q (length new.calls.items)) (sym frames)
+        frames = subst (AreSoundFrames P Q (length new.calls.items)) (sym frames)
             (opens-over P Q (length new.calls.items) old.frames.items (Back old.current) tasks (opens-more P Q (length old.calls.items) (length new.calls.items) (omega arith) old.frames.items sound.frames) (omega (arith, sound.number)) below);
         number = omega arith;
       }
@@ -94,7 +94,7 @@ is-opened old new tasks frames state some few = record {
 pub not-opened : (old : Course) (tasks : List Task) → length tasks ≡ 0 → IsOpened old tasks old
 not-opened old (t ∷ ts) none = absurd (omega arith)
 not-opened old [] none = record {
-  left = λ leaves. refl;
+  left = λ of_task. refl;
   sound = λ answers modules recipes callables sound. sound;
   lighter = λ t h below. taken-lighter (2 ^ 64) old.frames.items (Block t h);
 }
@@ -105,7 +105,7 @@ counted-sound P Q old new state frames sound =
     let long : length new.calls.items ≡ length old.calls.items = ap (λ s. length s.calls) state ∙ length-add old.calls.items old.current.number 1 in
     let number : new.current.number ≡ old.current.number = ap (λ s. s.number) state in
     record {
-      frames = subst (AreOpen P Q (length new.calls.items)) (sym frames) (opens-more P Q (length old.calls.items) (length new.calls.items) (omega arith) old.frames.items sound.frames);
+      frames = subst (AreSoundFrames P Q (length new.calls.items)) (sym frames) (opens-more P Q (length old.calls.items) (length new.calls.items) (omega arith) old.frames.items sound.frames);
       number = omega (arith, sound.number);
     }
 
@@ -119,21 +119,21 @@ called-sound P Q old new t h ps state frames callable served callables sound =
     let long : length new.calls.items ≡ length old.calls.items = ap (λ s. length s.calls) state ∙ length-add old.calls.items old.current.number 1 in
     let number : new.current.number ≡ old.current.number = ap (λ s. s.number) state in
     record {
-      frames = subst (AreOpen P Q (length new.calls.items)) (sym frames) (opens-over P Q (length new.calls.items) old.frames.items (Block t h) ps
+      frames = subst (AreSoundFrames P Q (length new.calls.items)) (sym frames) (opens-over P Q (length new.calls.items) old.frames.items (Block t h) ps
           (opens-more P Q (length old.calls.items) (length new.calls.items) (omega arith) old.frames.items sound.frames) (callable, served) callables);
       number = omega (arith, sound.number);
     }
 
 -- the pair of a task that was executed is put in, and its subsequents are called
-pub block-last : (leaves : Leaves) (old : Course) (t : Task) (table : List Pair) (ts : List Task) (u : Steps State) → table_of table ≡ put (table_of old.current.table) t.pair →
-    u ≡ and_then (fresh_steps (walk_at leaves) ts old.calls.items) (λ calls. left leaves old.frames.items (under (record { number = old.current.number; table = table }) calls)) →
-    u ≡ and_then (fresh_steps (walk_at leaves) ts old.calls.items) (λ calls. left leaves old.frames.items (ran (state_of old) t calls))
-block-last leaves old t table ts u is h =
-    h ∙ ap (λ now. and_then (fresh_steps (walk_at leaves) ts old.calls.items) (λ calls. left leaves old.frames.items (record { number = old.current.number; table = now; calls = calls }))) is
+pub block-last : (of_task : TaskInteractions) (old : Course) (t : Task) (table : List Pair) (ts : List Task) (u : Interaction State) → table_of table ≡ put (table_of old.current.table) t.pair →
+    u ≡ and_then (fresh_steps (walk_at of_task) ts old.calls.items) (λ calls. continuation_from of_task old.frames.items (under (record { number = old.current.number; table = table }) calls)) →
+    u ≡ and_then (fresh_steps (walk_at of_task) ts old.calls.items) (λ calls. continuation_from of_task old.frames.items (ran (state_of old) t calls))
+block-last of_task old t table ts u is h =
+    h ∙ ap (λ now. and_then (fresh_steps (walk_at of_task) ts old.calls.items) (λ calls. continuation_from of_task old.frames.items (record { number = old.current.number; table = now; calls = calls }))) is
 
 -- the first calls of a run
 pub begun-sound : (P : Task → Type 0) (Q : Task → Held → Type 0) (course : Course) (tasks : List Task) → course.frames.items ≡ calls_of tasks → state_of course ≡ opened [] → All P tasks → IsSound P Q course
 begun-sound P Q course tasks frames state callables = record {
-  frames = subst (AreOpen P Q (length course.calls.items)) (sym frames) (opens-calls P Q (length course.calls.items) tasks callables);
+  frames = subst (AreSoundFrames P Q (length course.calls.items)) (sym frames) (opens-calls P Q (length course.calls.items) tasks callables);
   number = let n : course.current.number ≡ 0 = ap (λ s. s.number) state in let k : length course.calls.items ≡ 1 = ap (λ s. length s.calls) state in omega arith;
 }

@@ -1,4 +1,4 @@
--- What is bound where a recipe is at home covers what is asked of it.
+-- What is bound in the scope of a recipe's module covers what is asked of it.
 use Rattle.std.proofs.Common.{◌≡◌, Bool, true, false, ◌||◌, List, [], ◌∷◌, ◌++◌, map, Option, Some, None, refl, sym, ◌∙◌, ap, subst}
 use Rattle.std.specs.Prelude.{IfSome, flat_map, option_to_list}
 use Rattle.std.specs.List.{All, list_any}
@@ -17,11 +17,11 @@ use Rattle.just_recipe.specs.Grouping.{joined}
 use Rattle.just_recipe.specs.declared.dependency.Dependency.{Dependency}
 use Rattle.just_recipe.specs.declared.dependency.DependencyArgument.{DependencyArgument}
 use Rattle.just_recipe.specs.declared.recipe.Recipe.{Recipe}
-use Rattle.just_run_layers.specs.Covering.{AreCovered, BindsParameters, Covers, IsCovered, hidden_after, module_of}
+use Rattle.just_run_layers.specs.Covering.{AreParametersCovered, BindsParameters, BindsRead, IsCovered, hidden_after, module_of}
 use Rattle.just_run_layers.specs.declared.held.Held.{Held}
 use Rattle.just_recipe_body.specs.Covering.{IsBodyCovered}
 use Rattle.just_recipe_body.proofs.AllLemmas.{all-left, all-right}
-use Rattle.just_execution.specs.Arguments.{IsGivenIn, IsReadable}
+use Rattle.just_execution.specs.Arguments.{IsGivenIn, IsReadableArgument}
 use Rattle.just_execution.specs.Homes.{IsBound, IsRead, ServesIn, arguments_of}
 use Rattle.just_execution.specs.declared.scopes.ModuleScope.{ModuleScope}
 use Rattle.just_execution.proofs.Places.{All-unmap}
@@ -45,7 +45,7 @@ hidden-more before p = λ i name. (ap (λ b. list_any (λ (p : Parameter). bytes
 
 -- what the defaults and the values of parameters read is bound
 module _ (m : Known) (scope : Scope) where
-  one-covered : (hidden : Text → Bool) (o : Option Expression) (rest : List Expression) → All (IsRead m scope) (map (scoped hidden) (option_to_list o ++ rest)) → IfSome o (Covers m hidden scope)
+  one-covered : (hidden : Text → Bool) (o : Option Expression) (rest : List Expression) → All (IsRead m scope) (map (scoped hidden) (option_to_list o ++ rest)) → IfSome o (BindsRead m hidden scope)
   one-covered hidden None rest h = tt
   one-covered hidden (Some e) rest h = All-head (IsRead m scope) (scoped hidden e) (map (scoped hidden) rest) h
 
@@ -53,11 +53,11 @@ module _ (m : Known) (scope : Scope) where
   rest-covered hidden None rest h = h
   rest-covered hidden (Some e) rest h = All-tail (IsRead m scope) (scoped hidden e) (map (scoped hidden) rest) h
 
-  last-covered : (hidden : Text → Bool) (o : Option Expression) → All (IsRead m scope) (map (scoped hidden) (option_to_list o)) → IfSome o (Covers m hidden scope)
+  last-covered : (hidden : Text → Bool) (o : Option Expression) → All (IsRead m scope) (map (scoped hidden) (option_to_list o)) → IfSome o (BindsRead m hidden scope)
   last-covered hidden None h = tt
   last-covered hidden (Some e) h = All-head (IsRead m scope) (scoped hidden e) [] h
 
-  covered-after : (before ps : List Parameter) → All (IsRead m scope) (parameter_scopes before ps) → AreCovered m scope (is_parameter before) ps
+  covered-after : (before ps : List Parameter) → All (IsRead m scope) (parameter_scopes before ps) → AreParametersCovered m scope (is_parameter before) ps
   covered-after before [] h = tt
   covered-after before (p ∷ ps) h =
       let own : List Scoped = map (scoped (is_parameter before)) (option_to_list p.default ++ option_to_list p.value) in
@@ -65,11 +65,11 @@ module _ (m : Known) (scope : Scope) where
         one-covered (is_parameter before) p.default (option_to_list p.value) here,
         (
           last-covered (is_parameter before) p.value (rest-covered (is_parameter before) p.default (option_to_list p.value) here),
-          subst (λ hidden. AreCovered m scope hidden ps) (sym (hidden-more before p)) (covered-after (before ++ p ∷ []) ps (all-right (IsRead m scope) own (parameter_scopes (before ++ p ∷ []) ps) h)),
+          subst (λ hidden. AreParametersCovered m scope hidden ps) (sym (hidden-more before p)) (covered-after (before ++ p ∷ []) ps (all-right (IsRead m scope) own (parameter_scopes (before ++ p ∷ []) ps) h)),
         ),
       )
 
--- of a recipe at home
+-- of a recipe that has its module's scope
 module _ (answers : SyntaxAnswers) (m : ModuleScope) (r : Recipe Dependency) where
   abbrev compiled : List Scoped
   compiled = map (scoped none_hidden) (of_attributes compiled_expressions r ++ of_attributes environment_expressions r)
@@ -77,7 +77,7 @@ module _ (answers : SyntaxAnswers) (m : ModuleScope) (r : Recipe Dependency) whe
   abbrev inner : List Scoped
   inner = map (scoped (is_parameter r.parameters)) (inner_expressions arguments_of answers m.context.settings.now r)
 
-  pub parameters-covered : IsBound answers m r m.scope → AreCovered (module_of m.context) m.scope none_hidden r.parameters
+  pub parameters-covered : IsBound answers m r m.scope → AreParametersCovered (module_of m.context) m.scope none_hidden r.parameters
   parameters-covered bound =
       let read = IsRead (module_of m.context) m.scope in
       covered-after (module_of m.context) m.scope [] r.parameters (all-left read (parameter_scopes [] r.parameters) inner (all-right read compiled (parameter_scopes [] r.parameters ++ inner) bound))
@@ -119,8 +119,8 @@ module _ (answers : SyntaxAnswers) (m : ModuleScope) (r : Recipe Dependency) whe
 
     one-given : (d : Dependency) → All reads_in (given_by d) → IsGivenIn (module_of m.context) h.scope d
     one-given d reads =
-        All-joined (IsReadable (module_of m.context) h.scope) d.arguments
-        (All-weaker (λ (a : DependencyArgument). reads_in a.expression) (IsReadable (module_of m.context) h.scope) (λ a q. covered-by a.expression q) (arguments_of d)
+        All-joined (IsReadableArgument (module_of m.context) h.scope) d.arguments
+        (All-weaker (λ (a : DependencyArgument). reads_in a.expression) (IsReadableArgument (module_of m.context) h.scope) (λ a q. covered-by a.expression q) (arguments_of d)
         (All-unmap reads_in (λ (a : DependencyArgument). a.expression) (arguments_of d) reads))
 
     pub arguments-given : All (IsGivenIn (module_of m.context) h.scope) r.dependencies

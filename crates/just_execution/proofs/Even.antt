@@ -9,17 +9,17 @@ use Rattle.just_recipe.specs.declared.recipe.Recipe.{Recipe}
 use Rattle.just_run_layers.specs.declared.held.Held.{Held}
 use Rattle.just_run_layers.specs.Evaluation.{Parameters, StringOf, Surroundings, Value}
 use Rattle.just_run_layers.specs.Host.{Answer}
-use Rattle.just_run_layers.specs.Steps.{Question, ToEvaluator, Steps, Give, Fail, Asks, and_then, outcome}
+use Rattle.just_run_layers.specs.Interactions.{Question, ToEvaluator, Interaction, Return, Fail, Ask, and_then, result_under}
 use Rattle.just_parts.specs.Syntax.{SyntaxAnswers}
 use Rattle.just_ast_expressions.specs.declared.expression.Expression.{Expression}
 use Rattle.just_recipe_body.specs.Attributes.{first_said}
 use Rattle.just_recipe_body.specs.Body.{BodyContents, around, name_of, string_steps, text_or, unevaluated}
 use Rattle.just_recipe_body.specs.Confirmation.{confirm_by, confirm_steps, confirmation_in, prompt_steps, said_prompt}
 use Rattle.just_execution.specs.Arguments.{argument_steps, dependencies_steps, dependency_steps, gathered, group_steps, groups_steps, tasks_with, texts_given, texts_steps, valued_answered}
-use Rattle.just_execution.specs.Expansion.{Part, Ask, Block}
-use Rattle.just_execution.specs.Leaves.{IsAlike, ask_in, ask_steps, bound_answered, consent_by, consent_steps, consented, held_steps, leaves_of, prepare_steps, prior_steps, surrounded}
+use Rattle.just_execution.specs.Expansion.{Part, Prepare, Block}
+use Rattle.just_execution.specs.TaskInteractions.{IsAlike, ask_in, ask_steps, bound_answered, consent_by, consent_steps, consented, held_steps, interactions_of, prepare_steps, prior_steps, surrounded}
 use Rattle.just_execution.specs.Pairs.{task}
-use Rattle.just_execution.specs.Run.{Each, IsEven, IsEvenPart, parts, priors_in, subsequents_by}
+use Rattle.just_execution.specs.Run.{Each, PriorsIgnoreFlag, PartIgnoresFlag, parts, priors_in, subsequents_by}
 use Rattle.just_execution.specs.Scene.{ModuleContents, Scene}
 use Rattle.just_execution.specs.declared.pair.Pair.{Pair}
 use Rattle.just_execution.specs.declared.task.Task.{Task}
@@ -29,38 +29,38 @@ module _ (f : Question → Answer) where
   on_success (Ok x) k = k x
   on_success (Err e) k = Err e
 
-  outcome-then : {A B : Type 0} (s : Steps A) (k : A → Steps B) → outcome f (and_then s k) ≡ on_success (outcome f s) (λ x. outcome f (k x))
-  outcome-then (Give x) k = refl
+  outcome-then : {A B : Type 0} (s : Interaction A) (k : A → Interaction B) → result_under f (and_then s k) ≡ on_success (result_under f s) (λ x. result_under f (k x))
+  outcome-then (Return x) k = refl
   outcome-then (Fail e) k = refl
-  outcome-then (Asks q g) k = outcome-then (g (f q)) k
+  outcome-then (Ask q g) k = outcome-then (g (f q)) k
 
-  same-then : {A B : Type 0} (s u : Steps A) (k l : A → Steps B) → outcome f s ≡ outcome f u → ((x : A) → outcome f (k x) ≡ outcome f (l x)) → outcome f (and_then s k) ≡ outcome f (and_then u l)
+  same-then : {A B : Type 0} (s u : Interaction A) (k l : A → Interaction B) → result_under f s ≡ result_under f u → ((x : A) → result_under f (k x) ≡ result_under f (l x)) → result_under f (and_then s k) ≡ result_under f (and_then u l)
   same-then s u k l e h = outcome-then s k ∙ (λ i. on_success (e i) (λ x. h x i)) ∙ sym (outcome-then u l)
 
-  same-gathered : {A B : Type 0} (s u : A → Steps (List B)) → ((x : A) → outcome f (s x) ≡ outcome f (u x)) → (xs : List A) → outcome f (gathered s xs) ≡ outcome f (gathered u xs)
+  same-gathered : {A B : Type 0} (s u : A → Interaction (List B)) → ((x : A) → result_under f (s x) ≡ result_under f (u x)) → (xs : List A) → result_under f (gathered s xs) ≡ result_under f (gathered u xs)
   same-gathered s u h [] = refl
-  same-gathered s u h (x ∷ xs) = same-then (s x) (u x) (λ ys. and_then (gathered s xs) (λ more. Give (ys ++ more))) (λ ys. and_then (gathered u xs) (λ more. Give (ys ++ more))) (h x)
-      (λ ys. same-then (gathered s xs) (gathered u xs) (λ more. Give (ys ++ more)) (λ more. Give (ys ++ more)) (same-gathered s u h xs) (λ more. refl))
+  same-gathered s u h (x ∷ xs) = same-then (s x) (u x) (λ ys. and_then (gathered s xs) (λ more. Return (ys ++ more))) (λ ys. and_then (gathered u xs) (λ more. Return (ys ++ more))) (h x)
+      (λ ys. same-then (gathered s xs) (gathered u xs) (λ more. Return (ys ++ more)) (λ more. Return (ys ++ more)) (same-gathered s u h xs) (λ more. refl))
 
   module _ (alike : IsAlike f) where
     module _ (recipes : List (Recipe Dependency)) (p : Pair) (m : ModuleContents) (h : Held) where
       abbrev as_one : Bool → Surroundings
       as_one flag = surrounded m (task flag p) h
 
-      argument-even : (a : DependencyArgument) → outcome f (argument_steps (as_one true) a) ≡ outcome f (argument_steps (as_one false) a)
-      argument-even a = ap (λ answer. outcome f (and_then (valued_answered answer) (λ value. Give (texts_given m.context.settings.lists value)))) (alike (Value (as_one true) a.expression))
+      argument-even : (a : DependencyArgument) → result_under f (argument_steps (as_one true) a) ≡ result_under f (argument_steps (as_one false) a)
+      argument-even a = ap (λ answer. result_under f (and_then (valued_answered answer) (λ value. Return (texts_given m.context.settings.lists value)))) (alike (Value (as_one true) a.expression))
 
-      group-even : (arguments : List DependencyArgument) → outcome f (group_steps (as_one true) arguments) ≡ outcome f (group_steps (as_one false) arguments)
-      group-even arguments = same-then (texts_steps (as_one true) arguments) (texts_steps (as_one false) arguments) (λ texts. Give (texts ∷ [])) (λ texts. Give (texts ∷ []))
+      group-even : (arguments : List DependencyArgument) → result_under f (group_steps (as_one true) arguments) ≡ result_under f (group_steps (as_one false) arguments)
+      group-even arguments = same-then (texts_steps (as_one true) arguments) (texts_steps (as_one false) arguments) (λ texts. Return (texts ∷ [])) (λ texts. Return (texts ∷ []))
           (same-gathered (argument_steps (as_one true)) (argument_steps (as_one false)) argument-even arguments) (λ texts. refl)
 
-      dependency-even : (d : Dependency) → outcome f (dependency_steps recipes (as_one true) d) ≡ outcome f (dependency_steps recipes (as_one false) d)
-      dependency-even d = same-then (groups_steps (as_one true) d.arguments) (groups_steps (as_one false) d.arguments) (λ groups. Give (tasks_with recipes d groups)) (λ groups. Give (tasks_with recipes d groups))
+      dependency-even : (d : Dependency) → result_under f (dependency_steps recipes (as_one true) d) ≡ result_under f (dependency_steps recipes (as_one false) d)
+      dependency-even d = same-then (groups_steps (as_one true) d.arguments) (groups_steps (as_one false) d.arguments) (λ groups. Return (tasks_with recipes d groups)) (λ groups. Return (tasks_with recipes d groups))
           (same-gathered (group_steps (as_one true)) (group_steps (as_one false)) group-even d.arguments) (λ groups. refl)
 
-      priors-even : (r : Recipe Dependency) → outcome f (prior_steps recipes (task true p) r m h) ≡ outcome f (prior_steps recipes (task false p) r m h)
+      priors-even : (r : Recipe Dependency) → result_under f (prior_steps recipes (task true p) r m h) ≡ result_under f (prior_steps recipes (task false p) r m h)
       priors-even r = same-then (dependencies_steps recipes (as_one true) (take r.priors r.dependencies)) (dependencies_steps recipes (as_one false) (take r.priors r.dependencies))
-          (λ ps. Give (record { held = h; priors = ps })) (λ ps. Give (record { held = h; priors = ps }))
+          (λ ps. Return (record { held = h; priors = ps })) (λ ps. Return (record { held = h; priors = ps }))
           (same-gathered (dependency_steps recipes (as_one true)) (dependency_steps recipes (as_one false)) dependency-even (take r.priors r.dependencies)) (λ ps. refl)
 
     -- and so does its confirmation
@@ -68,23 +68,23 @@ module _ (f : Question → Answer) where
       abbrev by : Bool → BodyContents
       by flag = consent_by syntax (task flag p) r m h
 
-      prompt-even : (e : Expression) → outcome f (string_steps (by true) e) ≡ outcome f (string_steps (by false) e)
-      prompt-even e = ap (λ answer. outcome f (text_or unevaluated answer)) (alike (StringOf (around (by true)) e))
+      prompt-even : (e : Expression) → result_under f (string_steps (by true) e) ≡ result_under f (string_steps (by false) e)
+      prompt-even e = ap (λ answer. result_under f (text_or unevaluated answer)) (alike (StringOf (around (by true)) e))
 
-      confirmed-even : (o : Option (Option Expression)) → outcome f (confirm_by (by true) o) ≡ outcome f (confirm_by (by false) o)
+      confirmed-even : (o : Option (Option Expression)) → result_under f (confirm_by (by true) o) ≡ result_under f (confirm_by (by false) o)
       confirmed-even None = refl
       confirmed-even (Some None) = refl
       confirmed-even (Some (Some e)) = same-then (string_steps (by true) e) (string_steps (by false) e) (λ text. prompt_steps (said_prompt text)) (λ text. prompt_steps (said_prompt text)) (prompt-even e) (λ text. refl)
 
-      asked-even : (yes : Bool) → outcome f (cond yes (Give tt) (and_then (confirm_steps (by true)) (consented (name_of (by true))))) ≡ outcome f (cond yes (Give tt) (and_then (confirm_steps (by false)) (consented (name_of (by false)))))
+      asked-even : (yes : Bool) → result_under f (cond yes (Return tt) (and_then (confirm_steps (by true)) (consented (name_of (by true))))) ≡ result_under f (cond yes (Return tt) (and_then (confirm_steps (by false)) (consented (name_of (by false)))))
       asked-even true = refl
       asked-even false = same-then (confirm_steps (by true)) (confirm_steps (by false)) (consented (name_of (by true))) (consented (name_of (by false)))
           (confirmed-even (first_said confirmation_in r.attributes)) (λ yes. refl)
 
-      consent-even : outcome f (consent_steps (by true)) ≡ outcome f (consent_steps (by false))
+      consent-even : result_under f (consent_steps (by true)) ≡ result_under f (consent_steps (by false))
       consent-even = asked-even m.context.config.yes
 
-      held-even : (recipes : List (Recipe Dependency)) → outcome f (held_steps syntax recipes (task true p) r m h) ≡ outcome f (held_steps syntax recipes (task false p) r m h)
+      held-even : (recipes : List (Recipe Dependency)) → result_under f (held_steps syntax recipes (task true p) r m h) ≡ result_under f (held_steps syntax recipes (task false p) r m h)
       held-even recipes = same-then (consent_steps (by true)) (consent_steps (by false)) (λ _. prior_steps recipes (task true p) r m h) (λ _. prior_steps recipes (task false p) r m h)
           consent-even (λ _. priors-even recipes p m h r)
 
@@ -92,24 +92,24 @@ module _ (f : Question → Answer) where
       abbrev asked : Recipe Dependency → ModuleContents → Bool → Question
       asked r m flag = ToEvaluator (Parameters m.context m.scope p.groups flag r.parameters (lexeme r.name.token))
 
-      ask_in-even : (r : Recipe Dependency) (o : Option ModuleContents) → outcome f (ask_in scene.syntax scene.recipes (task true p) r o) ≡ outcome f (ask_in scene.syntax scene.recipes (task false p) r o)
+      ask_in-even : (r : Recipe Dependency) (o : Option ModuleContents) → result_under f (ask_in scene.syntax scene.recipes (task true p) r o) ≡ result_under f (ask_in scene.syntax scene.recipes (task false p) r o)
       ask_in-even r None = refl
       ask_in-even r (Some m) = same-then (bound_answered (f (asked r m true))) (bound_answered (f (asked r m false))) (held_steps scene.syntax scene.recipes (task true p) r m) (held_steps scene.syntax scene.recipes (task false p) r m)
-          (ap (λ answer. outcome f (bound_answered answer)) (alike (Parameters m.context m.scope p.groups true r.parameters (lexeme r.name.token))))
+          (ap (λ answer. result_under f (bound_answered answer)) (alike (Parameters m.context m.scope p.groups true r.parameters (lexeme r.name.token))))
           (λ h. held-even scene.syntax p r m h scene.recipes)
 
-      prepare-even : (o : Option (Recipe Dependency)) → outcome f (prepare_steps scene (task true p) o) ≡ outcome f (prepare_steps scene (task false p) o)
+      prepare-even : (o : Option (Recipe Dependency)) → result_under f (prepare_steps scene (task true p) o) ≡ result_under f (prepare_steps scene (task false p) o)
       prepare-even None = refl
       prepare-even (Some r) = ask_in-even r (scene.modules r.module_path)
 
-      ask-even : outcome f (ask_steps scene (task true p)) ≡ outcome f (ask_steps scene (task false p))
+      ask-even : result_under f (ask_steps scene (task true p)) ≡ result_under f (ask_steps scene (task false p))
       ask-even = prepare-even (slice_get scene.recipes p.recipe)
 
-    parts-even : (scene : Scene) (run : List Task → Type 0) → ((ts : List Task) → run ts) → (xs : List (Part Task)) → Each (IsEvenPart (leaves_of scene) f run) xs
+    parts-even : (scene : Scene) (run : List Task → Type 0) → ((ts : List Task) → run ts) → (xs : List (Part Task)) → Each (PartIgnoresFlag (interactions_of scene) f run) xs
     parts-even scene run h [] = tt
-    parts-even scene run h (Ask t ∷ xs) = (ap priors_in (ask-even scene t.pair), parts-even scene run h xs)
-    parts-even scene run h (Block t ∷ xs) = (h (subsequents_by (leaves_of scene) f t), parts-even scene run h xs)
+    parts-even scene run h (Prepare t ∷ xs) = (ap priors_in (ask-even scene t.pair), parts-even scene run h xs)
+    parts-even scene run h (Block t ∷ xs) = (h (subsequents_by (interactions_of scene) f t), parts-even scene run h xs)
 
-    pub leaves-even : (scene : Scene) (n : ℕ) (tops : List Task) → IsEven (leaves_of scene) f n tops
+    pub leaves-even : (scene : Scene) (n : ℕ) (tops : List Task) → PriorsIgnoreFlag (interactions_of scene) f n tops
     leaves-even scene zero tops = tt
-    leaves-even scene (suc n) tops = parts-even scene (IsEven (leaves_of scene) f n) (leaves-even scene n) (parts (leaves_of scene) f (suc n) tops)
+    leaves-even scene (suc n) tops = parts-even scene (PriorsIgnoreFlag (interactions_of scene) f n) (leaves-even scene n) (parts (interactions_of scene) f (suc n) tops)

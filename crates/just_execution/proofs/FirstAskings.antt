@@ -5,15 +5,15 @@ use Rattle.std.proofs.lemmas.Bool.{cases_Bool, cond-true, cond-false, true≢fal
 use Rattle.std.proofs.lemmas.List.Elements.{All-head}
 use Rattle.just_graph.proofs.Members.{In, in_cases, in_left, in_right}
 use Rattle.just_run_layers.specs.Host.{Answer}
-use Rattle.just_run_layers.specs.Steps.{Question}
-use Rattle.just_execution.specs.Expansion.{Part, Ask, Block, same_part, part_key, expansion}
+use Rattle.just_run_layers.specs.Interactions.{Question}
+use Rattle.just_execution.specs.Expansion.{Part, Prepare, Block, same_part, part_key, expansion}
 use Rattle.just_execution.specs.Firsts.{has, without_key, firsts_by}
 use Rattle.just_execution.specs.Lower.{IsLower}
 use Rattle.just_execution.specs.Reports.{IsFirstAsked}
 use Rattle.just_execution.specs.declared.task.Task.{Task}
 use Rattle.just_execution.specs.Pairs.{same_pair, key, AllBelow}
-use Rattle.just_execution.specs.Run.{priors_by, parts, IsEven}
-use Rattle.just_execution.specs.Walking.{Leaves}
+use Rattle.just_execution.specs.Run.{priors_by, parts, PriorsIgnoreFlag}
+use Rattle.just_execution.specs.Walking.{TaskInteractions}
 use Rattle.just_execution.proofs.Walks.{blocks, walk, walks}
 use Rattle.just_execution.proofs.Keeps.{Exact}
 use Rattle.just_execution.proofs.Pairs.{pair-exact}
@@ -24,22 +24,22 @@ use Rattle.just_execution.proofs.Whole.{walk-parts}
 -- each block of a walk is of a task that the walk asks
 module _ {P K : Type 0} (same : K → K → Bool) (name : P → K) (priors : P → List P) where
   abbrev AreAsked : List (Part P) → Type 0
-  AreAsked xs = (p : P) → In (Block p) xs → In (Ask p) xs
+  AreAsked xs = (p : P) → In (Block p) xs → In (Prepare p) xs
 
   none-asked : AreAsked []
   none-asked p h = absurd h
 
   both-asked : (xs ys : List (Part P)) → AreAsked xs → AreAsked ys → AreAsked (xs ++ ys)
   both-asked xs ys h k p i = elim (in_cases (Block p) xs ys i) [
-    | inl l ↦ in_left (Ask p) xs ys (h p l)
-    | inr r ↦ in_right (Ask p) xs ys (k p r)
+    | inl l ↦ in_left (Prepare p) xs ys (h p l)
+    | inr r ↦ in_right (Prepare p) xs ys (k p r)
   ]
 
-  one-asked : (q : P) (xs : List (Part P)) → AreAsked xs → AreAsked (Ask q ∷ (xs ++ (Block q ∷ [])))
-  one-asked q xs h p (inl e) = absurd (let no : Block p ≡ Ask q = e in cc)
+  one-asked : (q : P) (xs : List (Part P)) → AreAsked xs → AreAsked (Prepare q ∷ (xs ++ (Block q ∷ [])))
+  one-asked q xs h p (inl e) = absurd (let no : Block p ≡ Prepare q = e in cc)
   one-asked q xs h p (inr i) = elim (in_cases (Block p) xs (Block q ∷ []) i) [
-    | inl l ↦ inr (in_left (Ask p) xs (Block q ∷ []) (h p l))
-    | inr (inl e) ↦ inl (let same : p ≡ q = cc in ap (λ x. Ask x) same)
+    | inl l ↦ inr (in_left (Prepare p) xs (Block q ∷ []) (h p l))
+    | inr (inl e) ↦ inl (let same : p ≡ q = cc in ap (λ x. Prepare x) same)
     | inr (inr none) ↦ absurd none
   ]
 
@@ -82,18 +82,18 @@ module _ {A K : Type 0} (same : K → K → Bool) (e : Exact same) (name : A →
   one-first (z ∷ zs) x y (inr h) (inl k) c = absurd ((other (name z) (firsts_by same name zs) x h).0 (ap name (sym k) ∙ sym c))
   one-first (z ∷ zs) x y (inr h) (inr k) c = one-first zs x y (other (name z) (firsts_by same name zs) x h).1 (other (name z) (firsts_by same name zs) y k).1 c
 
-module _ (leaves : Leaves) (lower : IsLower leaves) (f : Question → Answer) where
-  asked-part : (n : ℕ) (ts : List Task) → AllBelow n ts → IsEven leaves f n ts → (t : Task) → In (Block t) (parts leaves f n ts) → In (Ask t) (parts leaves f n ts)
+module _ (of_task : TaskInteractions) (lower : IsLower of_task) (f : Question → Answer) where
+  asked-part : (n : ℕ) (ts : List Task) → AllBelow n ts → PriorsIgnoreFlag of_task f n ts → (t : Task) → In (Block t) (parts of_task f n ts) → In (Prepare t) (parts of_task f n ts)
   asked-part zero [] b s t i = absurd i
   asked-part zero (u ∷ us) b s t i = let low : u.pair.recipe < 0 = All-head (λ (t : Task). t.pair.recipe < 0) u us b in absurd (omega arith)
   asked-part (suc n) ts b s t i =
-      let is = walk-parts leaves lower f (IsEven leaves f n) (suc n) ts (below-all (suc n) ts b) s in
-      subst (In (Ask t)) is (all-asked same_pair key (priors_by leaves f) (suc n) [] ts t (subst (In (Block t)) (sym is) i))
+      let is = walk-parts of_task lower f (PriorsIgnoreFlag of_task f n) (suc n) ts (below-all (suc n) ts b) s in
+      subst (In (Prepare t)) is (all-asked same_pair key (priors_by of_task f) (suc n) [] ts t (subst (In (Block t)) (sym is) i))
 
-  pub first-asked : (n : ℕ) (ts : List Task) → AllBelow n ts → IsEven leaves f n ts → (t : Task) → In (Block t) (parts leaves f n ts) → IsFirstAsked leaves f n ts t
+  pub first-asked : (n : ℕ) (ts : List Task) → AllBelow n ts → PriorsIgnoreFlag of_task f n ts → (t : Task) → In (Block t) (parts of_task f n ts) → IsFirstAsked of_task f n ts t
   first-asked n ts b s t i = record {
     asked = asked-part n ts b s t i;
     alone = λ u asked same.
-        let one : Ask u ≡ Ask t = one-first (same_part same_pair) (part-exact same_pair pair-exact) (part_key key) (flat_map (expansion (priors_by leaves f) n) ts) (Ask u) (Ask t) asked (asked-part n ts b s t i) (ap (λ p. Ask p) same) in
+        let one : Prepare u ≡ Prepare t = one-first (same_part same_pair) (part-exact same_pair pair-exact) (part_key key) (flat_map (expansion (priors_by of_task f) n) ts) (Prepare u) (Prepare t) asked (asked-part n ts b s t i) (ap (λ p. Prepare p) same) in
         cc;
   }

@@ -1,4 +1,4 @@
--- What tasks at home lead to is at home.
+-- What tasks lead to whose recipes have their module's scope has it too.
 use Rattle.std.proofs.Common.{◌≡◌, Bool, true, false, ℕ, zero, suc, ◌<◌, List, [], ◌∷◌, length, map, drop, take, Option, None, Some, Ok, refl, sym, ◌∙◌, ap, subst, arith}
 use Rattle.std.specs.List.{All, Contains, slice_get}
 use Rattle.std.proofs.lemmas.List.Elements.{All-contains, All-contains_itself, All-drop, All-head, All-nil, All-tail, All-take, All-weaker}
@@ -12,15 +12,15 @@ use Rattle.just_run_layers.specs.declared.held.Held.{Held}
 use Rattle.just_run_layers.specs.declared.host.Entry.{Entry}
 use Rattle.just_parts.specs.Syntax.{SyntaxAnswers}
 use Rattle.just_run_layers.specs.Host.{Answer}
-use Rattle.just_run_layers.specs.Steps.{both, Kept, kept_by}
-use Rattle.just_run_layers.proofs.StepLemmas.{took-gives}
+use Rattle.just_run_layers.specs.Interactions.{both, Log, log_of}
+use Rattle.just_run_layers.proofs.InteractionLemmas.{took-gives}
 use Rattle.just_execution.specs.Account.{AreNamed}
-use Rattle.just_execution.specs.Homes.{AreHome, IsCallable, IsHome, IsServed, Modules, ServesIn, module_at}
-use Rattle.just_execution.specs.Leaves.{AsksAlone, Prepares, ask_steps, follow_steps}
+use Rattle.just_execution.specs.Homes.{AllHaveModuleScope, IsCallable, HasModuleScope, IsServed, Modules, ServesIn, module_at}
+use Rattle.just_execution.specs.TaskInteractions.{AsksAlone, Prepares, ask_steps, follow_steps}
 use Rattle.just_execution.specs.Pairs.{AllBelow, at_place, needed}
 use Rattle.just_recipes.specs.Places.{place_of}
-use Rattle.just_execution.specs.Leading.{DependsOn, places}
-use Rattle.just_execution.specs.Scene.{Scene, contents_found, contents_of, lone, running, scene_of}
+use Rattle.just_execution.specs.Leading.{DependsOnPlace, places}
+use Rattle.just_execution.specs.Scene.{Scene, contents_found, contents_of, lone, running, scene_with}
 use Rattle.just_execution.proofs.Lone.{as_run, none-after, none-before, same-module}
 use Rattle.just_execution.specs.Walking.{Prepared}
 use Rattle.just_execution.specs.declared.scopes.ModuleScope.{ModuleScope}
@@ -42,7 +42,7 @@ part-needed part some (r ∷ rs) (suc k) = part-needed part some rs k
 
 module _ (answers : SyntaxAnswers) (modules : Modules) (rs : List (Recipe Dependency)) where
   -- each of several tasks can be called
-  pub each-callable : (ts : List Task) → AllBelow (length rs) ts → AreHome answers modules rs ts → All (IsCallable answers modules rs) ts
+  pub each-callable : (ts : List Task) → AllBelow (length rs) ts → AllHaveModuleScope answers modules rs ts → All (IsCallable answers modules rs) ts
   each-callable ts below home = All-weaker (Contains ts) (IsCallable answers modules rs)
       (λ t c. record {
         place = All-contains (λ (t : Task). t.pair.recipe < length rs) ts t below c;
@@ -52,20 +52,20 @@ module _ (answers : SyntaxAnswers) (modules : Modules) (rs : List (Recipe Depend
 
   module _ (t : Task) (callable : IsCallable answers modules rs t) where
     -- its own recipe
-    pub home-of : (r : Recipe Dependency) → slice_get rs t.pair.recipe ≡ Some r → IsHome answers modules r
+    pub home-of : (r : Recipe Dependency) → slice_get rs t.pair.recipe ≡ Some r → HasModuleScope answers modules r
     home-of r at = callable.home t.pair.recipe r (from_start (0, omega arith, refl)) at
 
     -- a task of what its recipe depends on
-    next-home : (u : Task) → DependsOn rs t.pair.recipe u.pair.recipe → AreHome answers modules rs (u ∷ [])
+    next-home : (u : Task) → DependsOnPlace rs t.pair.recipe u.pair.recipe → AllHaveModuleScope answers modules rs (u ∷ [])
     next-home u step = λ place recipe led at. callable.home place recipe
         (reached-from (places (u ∷ [])) (places (t ∷ []))
-        (λ a c. from_member (from_start (0, omega arith, refl)) refl (subst (DependsOn rs t.pair.recipe) (the_one u.pair.recipe a c) step)) place led) at
+        (λ a c. from_member (from_start (0, omega arith, refl)) refl (subst (DependsOnPlace rs t.pair.recipe) (the_one u.pair.recipe a c) step)) place led) at
 
     -- tasks of some of what its recipe depends on
     named-callable : (ds : List Dependency) → All (Contains (needed rs t.pair.recipe)) ds → All (IsBefore rs t.pair.recipe) ds → (ts : List Task) → AreNamed rs ds ts → All (IsCallable answers modules rs) ts
     named-callable ds some before ts named =
-        let step : ℕ → Type 0 = λ place. (place < length rs) × DependsOn rs t.pair.recipe place in
-        let there : (d : Dependency) → Contains (needed rs t.pair.recipe) d → DependsOn rs t.pair.recipe (place_of rs d.recipe.0) =
+        let step : ℕ → Type 0 = λ place. (place < length rs) × DependsOnPlace rs t.pair.recipe place in
+        let there : (d : Dependency) → Contains (needed rs t.pair.recipe) d → DependsOnPlace rs t.pair.recipe (place_of rs d.recipe.0) =
         λ d c. contained _ _ (in_map (λ (d : Dependency). place_of rs d.recipe.0) d (needed rs t.pair.recipe) (is_in d (needed rs t.pair.recipe) c)) in
         let steps : All (λ (d : Dependency). step (place_of rs d.recipe.0)) ds =
         λ k d l. (let low = (before k d l).1 in omega (arith, low, callable.place), there _ (some k d l)) in
@@ -81,9 +81,9 @@ module _ (answers : SyntaxAnswers) (modules : Modules) (rs : List (Recipe Depend
 
     module _ (b : Bool) (ordered : IsOrdered rs) (e : Inquiry → Option Answer) where
       abbrev seen : Scene
-      seen = scene_of answers modules (running b rs)
+      seen = scene_with answers modules (running b rs)
 
-      pub asked-callable : (h : Entry → Option Answer) (old new : Kept) (a : Prepared) → Prepares e h seen t old new (Ok a) → All (IsCallable answers modules rs) a.priors
+      pub asked-callable : (h : Entry → Option Answer) (old new : Log) (a : Prepared) → Prepares e h seen t old new (Ok a) → All (IsCallable answers modules rs) a.priors
       asked-callable h old new a took =
           ran-callable (λ r. take r.priors r.dependencies) none-before (part-needed (λ r. take r.priors r.dependencies) (λ r P h. All-take P r.priors r.dependencies h) rs t.pair.recipe)
           (priors-before rs t.pair.recipe ordered) b a.priors (ask-named seen t a (took-gives (both e h) (ask_steps seen t) old new a took))
@@ -92,14 +92,14 @@ module _ (answers : SyntaxAnswers) (modules : Modules) (rs : List (Recipe Depend
       followed-callable held before later ts took =
           ran-callable (λ r. drop r.priors r.dependencies) none-after (part-needed (λ r. drop r.priors r.dependencies) (λ r P h. All-drop P r.priors r.dependencies h) rs t.pair.recipe)
           (subsequents-before rs t.pair.recipe ordered) b ts
-          (follow-named seen t held ts (took-gives (both e (λ entry. None)) (follow_steps seen t held) (kept_by [] before) (kept_by [] later) ts (took (λ entry. None) [])))
+          (follow-named seen t held ts (took-gives (both e (λ entry. None)) (follow_steps seen t held) (log_of [] before) (log_of [] later) ts (took (λ entry. None) [])))
 
 -- what serves a task in its module serves it wherever it runs, and the other way round
 one-value : {A : Type 0} (o : Option A) (x y : A) → o ≡ Some x → o ≡ Some y → x ≡ y
 one-value o x y h k = cc
 
 pub contents-there : (answers : SyntaxAnswers) (modules : Modules) (b : Bool) (rs : List (Recipe Dependency)) (r : Recipe Dependency) (m : ModuleScope) → module_at modules r.module_path ≡ Some m →
-    (scene_of answers modules (running b rs)).modules (as_run b r).module_path ≡ Some (contents_of m)
+    (scene_with answers modules (running b rs)).modules (as_run b r).module_path ≡ Some (contents_of m)
 contents-there answers modules b rs r m there = ap (λ path. contents_found (module_at modules path)) (same-module r b) ∙ ap contents_found there
 
 module _ (answers : SyntaxAnswers) (modules : Modules) (rs : List (Recipe Dependency)) (t : Task) (h : Held) (m : ModuleScope) (r : Recipe Dependency) (at : slice_get rs t.pair.recipe ≡ Some r)

@@ -14,108 +14,108 @@ use Rattle.just_execution.specs.declared.pair.Pair.{Pair}
 use Rattle.just_execution.specs.Firsts.{has}
 use Rattle.just_execution.specs.declared.task.Task.{Task}
 use Rattle.just_execution.specs.Pairs.{same_pair, prior_dependencies}
-use Rattle.just_execution.specs.Account.{Asked, OnceTables, Empty, Asks, Runs, own, begun, executions, AreIn, known, pairs_asked, AreNamed, Fits, Complete, prior_count, asked_count, if_any, counts_below, IsFullBelow}
+use Rattle.just_execution.specs.Account.{AskedTask, OnceTables, Empty, Asked, Began, own, begun, executions, AreIn, known, pairs_asked, AreNamed, FitsTables, Complete, prior_count, asked_count, if_any, counts_below, IsFullBelow}
 use Rattle.just_execution.specs.Walking.{add_at}
 use Rattle.just_execution.proofs.Keeps.{has-append}
 use Rattle.just_execution.proofs.Pairs.{pair-exact}
 
 -- a task that was asked, with its priors
-abbrev pub with_priors : Task → List Task → Asked
+abbrev pub with_priors : Task → List Task → AskedTask
 with_priors t ps = record { task = t; priors = ps }
 
 -- those asked in the table itself
-abbrev pub asks : OnceTables → List Asked
+abbrev pub asks : OnceTables → List AskedTask
 asks Empty = []
-asks (Asks a rest) = a ∷ asks rest
-asks (Runs t ps ss below rest) = asks rest
+asks (Asked a rest) = a ∷ asks rest
+asks (Began t ps ss below rest) = asks rest
 
 -- each pair's recipe stands below the bound
 abbrev pub AllLow : ℕ → List Pair → Type 0
 AllLow bound ps = All (λ (p : Pair). p.recipe < bound) ps
 
 -- the pair of each asked is among some pairs
-abbrev pub AreDone : List Pair → List Asked → Type 0
+abbrev pub AreDone : List Pair → List AskedTask → Type 0
 AreDone done [] = Unit {0}
 AreDone done (a ∷ rest) = (has same_pair done a.task.pair ≡ true) × AreDone done rest
 
 -- the pair of each asked of a recipe below the bound is among some pairs
-abbrev pub Settled : ℕ → List Asked → List Pair → Type 0
+abbrev pub Settled : ℕ → List AskedTask → List Pair → Type 0
 Settled bound [] done = Unit {0}
 Settled bound (a ∷ rest) done = (a.task.pair.recipe < bound → has same_pair done a.task.pair ≡ true) × Settled bound rest done
 
 -- the priors of each asked are what its recipe names
 abbrev pub AllNamed : List (Recipe Dependency) → OnceTables → Type 0
 AllNamed recipes Empty = Unit {0}
-AllNamed recipes (Asks a rest) = AreNamed recipes (prior_dependencies recipes a.task.pair.recipe) a.priors × AllNamed recipes rest
-AllNamed recipes (Runs t ps ss below rest) = AllNamed recipes rest
+AllNamed recipes (Asked a rest) = AreNamed recipes (prior_dependencies recipes a.task.pair.recipe) a.priors × AllNamed recipes rest
+AllNamed recipes (Began t ps ss below rest) = AllNamed recipes rest
 
 -- what happened in a table, and then more
 abbrev pub join : OnceTables → OnceTables → OnceTables
 join Empty u = u
-join (Asks a r) u = Asks a (join r u)
-join (Runs t ps ss b r) u = Runs t ps ss b (join r u)
+join (Asked a r) u = Asked a (join r u)
+join (Began t ps ss b r) u = Began t ps ss b (join r u)
 
 pub own-join : (t u : OnceTables) → own (join t u) ≡ own t ++ own u
 own-join Empty u = refl
-own-join (Asks a r) u = own-join r u
-own-join (Runs t ps ss b r) u = ap (λ x. t.pair ∷ x) (own-join r u)
+own-join (Asked a r) u = own-join r u
+own-join (Began t ps ss b r) u = ap (λ x. t.pair ∷ x) (own-join r u)
 
 pub asks-join : (t u : OnceTables) → asks (join t u) ≡ asks t ++ asks u
 asks-join Empty u = refl
-asks-join (Asks a r) u = ap (λ x. a ∷ x) (asks-join r u)
-asks-join (Runs t ps ss b r) u = asks-join r u
+asks-join (Asked a r) u = ap (λ x. a ∷ x) (asks-join r u)
+asks-join (Began t ps ss b r) u = asks-join r u
 
 pub begun-join : (t u : OnceTables) → begun (join t u) ≡ begun t ++ begun u
 begun-join Empty u = refl
-begun-join (Asks a r) u = begun-join r u
-begun-join (Runs t ps ss b r) u = ap (λ x. t ∷ (begun b ++ x)) (begun-join r u) ∙ ap (λ x. t ∷ x) (sym (append_assoc (begun b) (begun r) (begun u)))
+begun-join (Asked a r) u = begun-join r u
+begun-join (Began t ps ss b r) u = ap (λ x. t ∷ (begun b ++ x)) (begun-join r u) ∙ ap (λ x. t ∷ x) (sym (append_assoc (begun b) (begun r) (begun u)))
 
 pub priors-join : (t u : OnceTables) → prior_count (join t u) ≡ prior_count t + prior_count u
 priors-join Empty u = omega arith
-priors-join (Asks a r) u = priors-join r u
-priors-join (Runs t ps ss b r) u = let h = priors-join r u in omega arith
+priors-join (Asked a r) u = priors-join r u
+priors-join (Began t ps ss b r) u = let h = priors-join r u in omega arith
 
 pub asked-join : (t u : OnceTables) → asked_count (join t u) ≡ asked_count t + asked_count u
 asked-join Empty u = omega arith
-asked-join (Asks a r) u = let h = asked-join r u in omega arith
-asked-join (Runs t ps ss b r) u = asked-join r u
+asked-join (Asked a r) u = let h = asked-join r u in omega arith
+asked-join (Began t ps ss b r) u = asked-join r u
 
 pub even-join : (t u : OnceTables) → asked_count t ≡ prior_count t → asked_count u ≡ prior_count u → asked_count (join t u) ≡ prior_count (join t u)
 even-join t u h k = asked-join t u ∙ (λ i. h i + k i) ∙ sym (priors-join t u)
 
 pub below-join : (t u : OnceTables) → counts_below (join t u) ≡ counts_below t ++ counts_below u
 below-join Empty u = refl
-below-join (Asks a r) u = below-join r u
-below-join (Runs t ps ss b r) u = ap (λ x. if_any ss ((length ss + prior_count b) ∷ counts_below b) ++ x) (below-join r u)
+below-join (Asked a r) u = below-join r u
+below-join (Began t ps ss b r) u = ap (λ x. if_any ss ((length ss + prior_count b) ∷ counts_below b) ++ x) (below-join r u)
     ∙ sym (append_assoc (if_any ss ((length ss + prior_count b) ∷ counts_below b)) (counts_below r) (counts_below u))
 
 pub Complete-join : (recipes : List (Recipe Dependency)) (t u : OnceTables) → Complete recipes t → Complete recipes u → Complete recipes (join t u)
 Complete-join recipes Empty u h k = k
-Complete-join recipes (Asks a r) u h k = Complete-join recipes r u h k
-Complete-join recipes (Runs t ps ss b r) u h k = (h.0, h.1, h.2, Complete-join recipes r u h.3 k)
+Complete-join recipes (Asked a r) u h k = Complete-join recipes r u h k
+Complete-join recipes (Began t ps ss b r) u h k = (h.0, h.1, h.2, Complete-join recipes r u h.3 k)
 
 pub AllNamed-join : (recipes : List (Recipe Dependency)) (t u : OnceTables) → AllNamed recipes t → AllNamed recipes u → AllNamed recipes (join t u)
 AllNamed-join recipes Empty u h k = k
-AllNamed-join recipes (Asks a r) u h k = (h.0, AllNamed-join recipes r u h.1 k)
-AllNamed-join recipes (Runs t ps ss b r) u h k = AllNamed-join recipes r u h k
+AllNamed-join recipes (Asked a r) u h k = (h.0, AllNamed-join recipes r u h.1 k)
+AllNamed-join recipes (Began t ps ss b r) u h k = AllNamed-join recipes r u h k
 
 pub full-join : (t u : OnceTables) → IsFullBelow u → IsFullBelow (join t u)
 full-join Empty u h = h
-full-join (Asks a r) u h = full-join r u h
-full-join (Runs t ps ss b r) u h = inr (full-join r u h)
+full-join (Asked a r) u h = full-join r u h
+full-join (Began t ps ss b r) u h = inr (full-join r u h)
 
 -- only where nothing failed can more follow
-pub Fits-join : (recipes : List (Recipe Dependency)) (tops : List Task) (t u : OnceTables) (asked : List Asked) (done : List Pair) → AllNamed recipes t → Complete recipes t →
-    Fits recipes tops asked done t → Fits recipes tops (asked ++ asks t) (done ++ own t) u → Fits recipes tops asked done (join t u)
-Fits-join recipes tops Empty u asked done n c h k = subst (λ a. Fits recipes tops a done u) (append-nil asked) (subst (λ d. Fits recipes tops (asked ++ []) d u) (append-nil done) k)
-Fits-join recipes tops (Asks a r) u asked done n c h k = (
+pub Fits-join : (recipes : List (Recipe Dependency)) (tops : List Task) (t u : OnceTables) (asked : List AskedTask) (done : List Pair) → AllNamed recipes t → Complete recipes t →
+    FitsTables recipes tops asked done t → FitsTables recipes tops (asked ++ asks t) (done ++ own t) u → FitsTables recipes tops asked done (join t u)
+Fits-join recipes tops Empty u asked done n c h k = subst (λ a. FitsTables recipes tops a done u) (append-nil asked) (subst (λ d. FitsTables recipes tops (asked ++ []) d u) (append-nil done) k)
+Fits-join recipes tops (Asked a r) u asked done n c h k = (
   record { from = h.0.from; unasked = h.0.unasked; named = inl n.0 },
-  Fits-join recipes tops r u (asked ++ a ∷ []) done n.1 c h.1 (subst (λ x. Fits recipes tops x (done ++ own r) u) (sym (append_assoc asked (a ∷ []) (asks r))) k),
+  Fits-join recipes tops r u (asked ++ a ∷ []) done n.1 c h.1 (subst (λ x. FitsTables recipes tops x (done ++ own r) u) (sym (append_assoc asked (a ∷ []) (asks r))) k),
 )
-Fits-join recipes tops (Runs t ps ss b r) u asked done n c h k = (
+Fits-join recipes tops (Began t ps ss b r) u asked done n c h k = (
   record { asked_before = h.0.asked_before; unbegun = h.0.unbegun; priors_begun = h.0.priors_begun; named = inl c.0 },
   h.1,
-  Fits-join recipes tops r u asked (done ++ t.pair ∷ []) n c.3 h.2 (subst (λ d. Fits recipes tops (asked ++ asks r) d u) (sym (append_assoc done (t.pair ∷ []) (own r))) k),
+  Fits-join recipes tops r u asked (done ++ t.pair ∷ []) n c.3 h.2 (subst (λ d. FitsTables recipes tops (asked ++ asks r) d u) (sym (append_assoc done (t.pair ∷ []) (own r))) k),
 )
 
 pub AllLow-more : (k n : ℕ) (ps : List Pair) → k ≤ n → AllLow k ps → AllLow n ps
@@ -142,19 +142,19 @@ pub executions-append : (rs : List (Recipe Dependency)) (xs ys : List Task) → 
 executions-append rs xs ys = flat_map-append _ xs ys
 
 -- what is known grows with what was asked
-pub known-append : (tops : List Task) (a b : List Asked) → known tops (a ++ b) ≡ known tops a ++ flat_map (λ (a : Asked). a.priors) b
-known-append tops a b = ap (λ x. tops ++ x) (flat_map-append (λ (a : Asked). a.priors) a b)
-    ∙ sym (append_assoc tops (flat_map (λ (a : Asked). a.priors) a) (flat_map (λ (a : Asked). a.priors) b))
+pub known-append : (tops : List Task) (a b : List AskedTask) → known tops (a ++ b) ≡ known tops a ++ flat_map (λ (a : AskedTask). a.priors) b
+known-append tops a b = ap (λ x. tops ++ x) (flat_map-append (λ (a : AskedTask). a.priors) a b)
+    ∙ sym (append_assoc tops (flat_map (λ (a : AskedTask). a.priors) a) (flat_map (λ (a : AskedTask). a.priors) b))
 
-pub known-more : (tops : List Task) (a b : List Asked) (t : Task) → In t (known tops a) → In t (known tops (a ++ b))
-known-more tops a b t h = subst (λ x. In t x) (sym (known-append tops a b)) (in_left t (known tops a) (flat_map (λ (a : Asked). a.priors) b) h)
+pub known-more : (tops : List Task) (a b : List AskedTask) (t : Task) → In t (known tops a) → In t (known tops (a ++ b))
+known-more tops a b t h = subst (λ x. In t x) (sym (known-append tops a b)) (in_left t (known tops a) (flat_map (λ (a : AskedTask). a.priors) b) h)
 
 All-In : {A : Type 0} → (qs xs : List A) → ((q : A) → In q qs → In q xs) → All (λ (q : A). In q xs) qs
 All-In {A} [] xs h = All-nil (λ (q : A). In q xs)
 All-In {A} (q ∷ qs) xs h = All-cons (λ (q : A). In q xs) q qs (h q (inl refl)) (All-In qs xs (λ r i. h r (inr i)))
 
 -- the priors of a task just asked are known
-pub known-priors : (tops : List Task) (asked : List Asked) (t : Task) (ps : List Task) → All (λ (q : Task). In q (known tops (asked ++ with_priors t ps ∷ []))) ps
+pub known-priors : (tops : List Task) (asked : List AskedTask) (t : Task) (ps : List Task) → All (λ (q : Task). In q (known tops (asked ++ with_priors t ps ∷ []))) ps
 known-priors tops asked t ps = All-In ps (known tops (asked ++ with_priors t ps ∷ [])) (λ q i.
     subst (λ x. In q x) (sym (known-append tops asked (with_priors t ps ∷ []))) (in_right q (known tops asked) (ps ++ []) (in_left q ps [] i)))
 
@@ -166,19 +166,19 @@ length-append : {A : Type 0} (xs ys : List A) → length (xs ++ ys) ≡ length x
 length-append [] ys = omega arith
 length-append (x ∷ xs) ys = let h = length-append xs ys in omega arith
 
-length-asked : (t : OnceTables) → length (flat_map (λ (a : Asked). a.priors) (asks t)) ≡ asked_count t
+length-asked : (t : OnceTables) → length (flat_map (λ (a : AskedTask). a.priors) (asks t)) ≡ asked_count t
 length-asked Empty = refl
-length-asked (Asks a r) = length-append a.priors (flat_map (λ (a : Asked). a.priors) (asks r)) ∙ ap (λ n. length a.priors + n) (length-asked r)
-length-asked (Runs t ps ss b r) = length-asked r
+length-asked (Asked a r) = length-append a.priors (flat_map (λ (a : AskedTask). a.priors) (asks r)) ∙ ap (λ n. length a.priors + n) (length-asked r)
+length-asked (Began t ps ss b r) = length-asked r
 
-pub length-known : (tops : List Task) (before : List Asked) (t : OnceTables) → length (known tops (before ++ asks t)) ≡ length (known tops before) + asked_count t
-length-known tops before t = ap (λ x. length x) (known-append tops before (asks t)) ∙ length-append (known tops before) (flat_map (λ (a : Asked). a.priors) (asks t))
+pub length-known : (tops : List Task) (before : List AskedTask) (t : OnceTables) → length (known tops (before ++ asks t)) ≡ length (known tops before) + asked_count t
+length-known tops before t = ap (λ x. length x) (known-append tops before (asks t)) ∙ length-append (known tops before) (flat_map (λ (a : AskedTask). a.priors) (asks t))
     ∙ ap (λ n. length (known tops before) + n) (length-asked t)
 
-pub length-known_one : (tops : List Task) (before : List Asked) (a : Asked) → length (known tops (before ++ a ∷ [])) ≡ length (known tops before) + length a.priors
+pub length-known_one : (tops : List Task) (before : List AskedTask) (a : AskedTask) → length (known tops (before ++ a ∷ [])) ≡ length (known tops before) + length a.priors
 length-known_one tops before a =
     let e : length (known tops before) + (length a.priors + 0) ≡ length (known tops before) + length a.priors = omega arith in
-    length-known tops before (Asks a Empty) ∙ e
+    length-known tops before (Asked a Empty) ∙ e
 
 pub length-known_none : (tops : List Task) → length (known tops []) ≡ length tops
 length-known_none tops = ap (λ x. length x) (append-nil tops)
@@ -187,16 +187,16 @@ pub length-known_tops : (tops : List Task) (t : OnceTables) → length (known to
 length-known_tops tops t = length-known tops [] t ∙ ap (λ n. n + asked_count t) (length-known_none tops)
 
 -- those asked and done
-pub AreDone-more : (done more : List Pair) (rest : List Asked) → AreDone done rest → AreDone (done ++ more) rest
+pub AreDone-more : (done more : List Pair) (rest : List AskedTask) → AreDone done rest → AreDone (done ++ more) rest
 AreDone-more done more [] h = tt
 AreDone-more done more (a ∷ rest) h = (has-append same_pair done more a.task.pair ∙ or_left (has same_pair done a.task.pair) (has same_pair more a.task.pair) h.0, AreDone-more done more rest h.1)
 
-pub AreDone-after : (done more : List Pair) (rest : List Asked) → AreDone more rest → AreDone (done ++ more) rest
+pub AreDone-after : (done more : List Pair) (rest : List AskedTask) → AreDone more rest → AreDone (done ++ more) rest
 AreDone-after done more [] h = tt
 AreDone-after done more (a ∷ rest) h =
     (has-append same_pair done more a.task.pair ∙ or_right (has same_pair done a.task.pair) (has same_pair more a.task.pair) h.0, AreDone-after done more rest h.1)
 
-AreDone-append : (done : List Pair) (rest bs : List Asked) → AreDone done rest → AreDone done bs → AreDone done (rest ++ bs)
+AreDone-append : (done : List Pair) (rest bs : List AskedTask) → AreDone done rest → AreDone done bs → AreDone done (rest ++ bs)
 AreDone-append done [] bs h k = k
 AreDone-append done (a ∷ rest) bs h k = (h.0, AreDone-append done rest bs h.1 k)
 
@@ -204,34 +204,34 @@ pub AreDone-join : (t u : OnceTables) → AreDone (own t) (asks t) → AreDone (
 AreDone-join t u h k = subst (λ d. AreDone d (asks (join t u))) (sym (own-join t u)) (subst (λ a. AreDone (own t ++ own u) a) (sym (asks-join t u))
     (AreDone-append (own t ++ own u) (asks t) (asks u) (AreDone-more (own t) (own u) (asks t) h) (AreDone-after (own t) (own u) (asks u) k)))
 
-Settled-append : (k : ℕ) (done : List Pair) (rest bs : List Asked) → Settled k rest done → Settled k bs done → Settled k (rest ++ bs) done
+Settled-append : (k : ℕ) (done : List Pair) (rest bs : List AskedTask) → Settled k rest done → Settled k bs done → Settled k (rest ++ bs) done
 Settled-append k done [] bs h i = i
 Settled-append k done (a ∷ rest) bs h i = (h.0, Settled-append k done rest bs h.1 i)
 
-Settled-more : (k : ℕ) (done more : List Pair) (rest : List Asked) → Settled k rest done → Settled k rest (done ++ more)
+Settled-more : (k : ℕ) (done more : List Pair) (rest : List AskedTask) → Settled k rest done → Settled k rest (done ++ more)
 Settled-more k done more [] h = tt
 Settled-more k done more (a ∷ rest) h =
     ((λ l. has-append same_pair done more a.task.pair ∙ or_left (has same_pair done a.task.pair) (has same_pair more a.task.pair) (h.0 l)), Settled-more k done more rest h.1)
 
-pub Settled-low : (k n : ℕ) (done : List Pair) (rest : List Asked) → k ≤ n → Settled n rest done → Settled k rest done
+pub Settled-low : (k n : ℕ) (done : List Pair) (rest : List AskedTask) → k ≤ n → Settled n rest done → Settled k rest done
 Settled-low k n done [] l h = tt
 Settled-low k n done (a ∷ rest) l h = ((λ i. h.0 (omega arith)), Settled-low k n done rest l h.1)
 
-Settled-done : (k : ℕ) (done : List Pair) (rest : List Asked) → AreDone done rest → Settled k rest done
+Settled-done : (k : ℕ) (done : List Pair) (rest : List AskedTask) → AreDone done rest → Settled k rest done
 Settled-done k done [] h = tt
 Settled-done k done (a ∷ rest) h = ((λ i. h.0), Settled-done k done rest h.1)
 
-pub Settled-then : (k : ℕ) (done : List Pair) (asked : List Asked) (t : OnceTables) → Settled k asked done → AreDone (own t) (asks t) → Settled k (asked ++ asks t) (done ++ own t)
+pub Settled-then : (k : ℕ) (done : List Pair) (asked : List AskedTask) (t : OnceTables) → Settled k asked done → AreDone (own t) (asks t) → Settled k (asked ++ asks t) (done ++ own t)
 Settled-then k done asked t h i =
     Settled-append k (done ++ own t) asked (asks t) (Settled-more k done (own t) asked h) (Settled-done k (done ++ own t) (asks t) (AreDone-after done (own t) (asks t) i))
 
 -- the pair itself, asked, does not count below it
-pub Settled-asked : (done : List Pair) (asked : List Asked) (a : Asked) → Settled (suc a.task.pair.recipe) asked done → Settled a.task.pair.recipe (asked ++ a ∷ []) done
+pub Settled-asked : (done : List Pair) (asked : List AskedTask) (a : AskedTask) → Settled (suc a.task.pair.recipe) asked done → Settled a.task.pair.recipe (asked ++ a ∷ []) done
 Settled-asked done asked a h =
     Settled-append a.task.pair.recipe done asked (a ∷ []) (Settled-low a.task.pair.recipe (suc a.task.pair.recipe) done asked (omega arith) h) ((λ l. absurd (omega arith)), tt)
 
 -- a pair that is not done was not asked
-unasked-not : (p : Pair) (done : List Pair) (rest : List Asked) → Settled (suc p.recipe) rest done → has same_pair done p ≡ false → has same_pair (pairs_asked rest) p ≡ true → ⊥
+unasked-not : (p : Pair) (done : List Pair) (rest : List AskedTask) → Settled (suc p.recipe) rest done → has same_pair done p ≡ false → has same_pair (pairs_asked rest) p ≡ true → ⊥
 unasked-not p done [] h n k = true≢false (sym k)
 unasked-not p done (a ∷ rest) h n k = elim (or_cases (same_pair a.task.pair p) (has same_pair (pairs_asked rest) p) k) [
   | inl m ↦ let e : a.task.pair ≡ p = pair-exact.only a.task.pair p m in
@@ -240,7 +240,7 @@ unasked-not p done (a ∷ rest) h n k = elim (or_cases (same_pair a.task.pair p)
   | inr m ↦ unasked-not p done rest h.1 n m
 ]
 
-pub unasked : (p : Pair) (done : List Pair) (rest : List Asked) → Settled (suc p.recipe) rest done → has same_pair done p ≡ false → has same_pair (pairs_asked rest) p ≡ false
+pub unasked : (p : Pair) (done : List Pair) (rest : List AskedTask) → Settled (suc p.recipe) rest done → has same_pair done p ≡ false → has same_pair (pairs_asked rest) p ≡ false
 unasked p done rest h n = false_from_ne_true (has same_pair (pairs_asked rest) p) (λ k. unasked-not p done rest h n k)
 
 -- counts
@@ -321,7 +321,7 @@ joined-low t u k h i = subst (λ ps. AllLow k ps) (sym (own-join t u)) (All-appe
 pub joined-own : (t u : OnceTables) (done : List Pair) → (done ++ own t) ++ own u ≡ done ++ own (join t u)
 joined-own t u done = append_assoc done (own t) (own u) ∙ ap (λ x. done ++ x) (sym (own-join t u))
 
-pub joined-asks : (t u : OnceTables) (before : List Asked) → (before ++ asks t) ++ asks u ≡ before ++ asks (join t u)
+pub joined-asks : (t u : OnceTables) (before : List AskedTask) → (before ++ asks t) ++ asks u ≡ before ++ asks (join t u)
 joined-asks t u before = append_assoc before (asks t) (asks u) ∙ ap (λ x. before ++ x) (sym (asks-join t u))
 
 pub none-in : (done : List Pair) → AreIn done []

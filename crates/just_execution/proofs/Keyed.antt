@@ -5,7 +5,7 @@ use Rattle.std.proofs.lemmas.List.{append-nil, map-append}
 use Rattle.std.proofs.lemmas.Bool.{cases_Bool, or_cases, or_left, or_right, cond-true, cond-false, true≢false, false_from_ne_true}
 use Rattle.just_graph.proofs.Members.{In}
 use Rattle.just_execution.specs.Firsts.{has, without_key, firsts_by}
-use Rattle.just_execution.specs.Expansion.{Part, Ask, Block, same_part, part_key, expansion}
+use Rattle.just_execution.specs.Expansion.{Part, Prepare, Block, same_part, part_key, expansion}
 use Rattle.just_execution.proofs.Walks.{blocks, walk, walks}
 use Rattle.just_execution.proofs.Keeps.{Exact, has-append, or_false, absorbed, regroup, swapped, has-two, has-twice}
 use Rattle.just_execution.proofs.Ranks.{Below, part-exact, below-in, flat-from, ex-rank, ex-within, ex-both}
@@ -116,13 +116,13 @@ module _ {P K : Type 0} (same : K → K → Bool) (e : Exact same) (key : P → 
 
   keys : (n : ℕ) (p : P) → map pk (ex n p) ≡ kex n (key p)
   keys zero p = refl
-  keys (suc n) p = ap (λ t. Ask (key p) ∷ t) (map-append pk (flat_map (ex n) (priors (key p))) (Block p ∷ []) ∙ ap (λ t. t ++ (Block (key p) ∷ [])) (flat-keys (ex n) (kex n) (keys n) (priors (key p))))
+  keys (suc n) p = ap (λ t. Prepare (key p) ∷ t) (map-append pk (flat_map (ex n) (priors (key p))) (Block p ∷ []) ∙ ap (λ t. t ++ (Block (key p) ∷ [])) (flat-keys (ex n) (kex n) (keys n) (priors (key p))))
 
   record Closed (s : List (Part K)) : Type 0 where
     whole : (q : K) (m : ℕ) (x : Part K) → hs s (Block q) ≡ true → hs (kex m q) x ≡ true → hs s x ≡ true
 
   record Settled (n : ℕ) (s : List (Part K)) : Type 0 where
-    done : (q : K) → rank q < n → hs s (Ask q) ≡ true → hs s (Block q) ≡ true
+    done : (q : K) → rank q < n → hs s (Prepare q) ≡ true → hs s (Block q) ≡ true
 
   after : List (Part K) → List (Part P) → List (Part K)
   after s xs = s ++ map pk (kw s xs)
@@ -143,7 +143,7 @@ module _ {P K : Type 0} (same : K → K → Bool) (e : Exact same) (key : P → 
   after-settled : (n : ℕ) (p : P) (k : ℕ) (s : List (Part K)) → Settled k s → Settled k (after s (ex n p))
   after-settled n p k s c = record {
     done = λ q b h.
-        after-has s (ex n p) (kex n (key p)) (keys n p) (Block q) ∙ elim (or_cases (hs s (Ask q)) (hs (kex n (key p)) (Ask q)) (sym (after-has s (ex n p) (kex n (key p)) (keys n p) (Ask q)) ∙ h)) [
+        after-has s (ex n p) (kex n (key p)) (keys n p) (Block q) ∙ elim (or_cases (hs s (Prepare q)) (hs (kex n (key p)) (Prepare q)) (sym (after-has s (ex n p) (kex n (key p)) (keys n p) (Prepare q)) ∙ h)) [
           | inl g ↦ or_left (hs s (Block q)) (hs (kex n (key p)) (Block q)) (c.done q b g)
           | inr g ↦ or_right (hs s (Block q)) (hs (kex n (key p)) (Block q)) (ex-both same e kp rank lower n (key p) q g)
         ];
@@ -151,7 +151,7 @@ module _ {P K : Type 0} (same : K → K → Bool) (e : Exact same) (key : P → 
 
   has-blocks : (s : List (Part K)) (p : K) → has same (blocks s) p ≡ hs s (Block p)
   has-blocks [] p = refl
-  has-blocks (Ask q ∷ s) p = has-blocks s p
+  has-blocks (Prepare q ∷ s) p = has-blocks s p
   has-blocks (Block q ∷ s) p = ap (λ b. same q p || b) (has-blocks s p)
 
   abbrev Keeps : ℕ → Type 0
@@ -172,18 +172,18 @@ module _ {P K : Type 0} (same : K → K → Bool) (e : Exact same) (key : P → 
       ∙ ap (λ t. kw s (ex n q) ++ t) rest
       ∙ sym (keep-append sp (part-exact same e) pk (ex n q) (flat_map (ex n) qs) s)
 
-  asked-closed : (p : K) (s : List (Part K)) → Closed s → Closed (s ++ (Ask p ∷ []))
+  asked-closed : (p : K) (s : List (Part K)) → Closed s → Closed (s ++ (Prepare p ∷ []))
   asked-closed p s c = record {
     whole = λ q m x h g.
-        has-append sp s (Ask p ∷ []) x ∙ or_left (hs s x) (sp (Ask p) x || false)
-        (c.whole q m x (elim (or_cases (hs s (Block q)) false (sym (has-append sp s (Ask p ∷ []) (Block q)) ∙ h)) [ inl k ↦ k | inr k ↦ absurd (true≢false (sym k)) ]) g);
+        has-append sp s (Prepare p ∷ []) x ∙ or_left (hs s x) (sp (Prepare p) x || false)
+        (c.whole q m x (elim (or_cases (hs s (Block q)) false (sym (has-append sp s (Prepare p ∷ []) (Block q)) ∙ h)) [ inl k ↦ k | inr k ↦ absurd (true≢false (sym k)) ]) g);
   }
 
-  asked-settled : (p : K) (s : List (Part K)) → Settled (suc (rank p)) s → Settled (rank p) (s ++ (Ask p ∷ []))
+  asked-settled : (p : K) (s : List (Part K)) → Settled (suc (rank p)) s → Settled (rank p) (s ++ (Prepare p ∷ []))
   asked-settled p s d = record {
     done = λ q b h.
-        has-append sp s (Ask p ∷ []) (Block q) ∙ or_left (hs s (Block q)) false
-        (d.done q (omega arith) (elim (or_cases (hs s (Ask q)) (same p q || false) (sym (has-append sp s (Ask p ∷ []) (Ask q)) ∙ h)) [
+        has-append sp s (Prepare p ∷ []) (Block q) ∙ or_left (hs s (Block q)) false
+        (d.done q (omega arith) (elim (or_cases (hs s (Prepare q)) (same p q || false) (sym (has-append sp s (Prepare p ∷ []) (Prepare q)) ∙ h)) [
           | inl k ↦ k
           | inr k ↦ elim (or_cases (same p q) false k) [
             | inl m ↦ let r : rank p ≡ rank q = ap rank (e.only p q m) in absurd (omega arith)
@@ -195,10 +195,10 @@ module _ {P K : Type 0} (same : K → K → Bool) (e : Exact same) (key : P → 
   flat-k : (n : ℕ) (qs : List P) → map pk (flat_map (ex n) qs) ≡ flat_map (kex n) (map key qs)
   flat-k n qs = flat-keys (ex n) (kex n) (keys n) qs
 
-  unblocked-after : (n : ℕ) (p : K) (s : List (Part K)) → hs s (Block p) ≡ false → hs (after (s ++ (Ask p ∷ [])) (flat_map (ex n) (priors p))) (Block p) ≡ false
-  unblocked-after n p s h = false_from_ne_true (hs (after (s ++ (Ask p ∷ [])) (flat_map (ex n) (priors p))) (Block p)) (λ g.
-      elim (or_cases (hs (s ++ (Ask p ∷ [])) (Block p)) (hs (flat_map (kex n) (kp p)) (Block p)) (sym (after-has (s ++ (Ask p ∷ [])) (flat_map (ex n) (priors p)) (flat_map (kex n) (kp p)) (flat-k n (priors p)) (Block p)) ∙ g)) [
-        | inl k ↦ elim (or_cases (hs s (Block p)) false (sym (has-append sp s (Ask p ∷ []) (Block p)) ∙ k)) [
+  unblocked-after : (n : ℕ) (p : K) (s : List (Part K)) → hs s (Block p) ≡ false → hs (after (s ++ (Prepare p ∷ [])) (flat_map (ex n) (priors p))) (Block p) ≡ false
+  unblocked-after n p s h = false_from_ne_true (hs (after (s ++ (Prepare p ∷ [])) (flat_map (ex n) (priors p))) (Block p)) (λ g.
+      elim (or_cases (hs (s ++ (Prepare p ∷ [])) (Block p)) (hs (flat_map (kex n) (kp p)) (Block p)) (sym (after-has (s ++ (Prepare p ∷ [])) (flat_map (ex n) (priors p)) (flat_map (kex n) (kp p)) (flat-k n (priors p)) (Block p)) ∙ g)) [
+        | inl k ↦ elim (or_cases (hs s (Block p)) false (sym (has-append sp s (Prepare p ∷ []) (Block p)) ∙ k)) [
           | inl m ↦ true≢false (sym m ∙ h)
           | inr m ↦ true≢false (sym m)
         ]
@@ -217,19 +217,19 @@ module _ {P K : Type 0} (same : K → K → Bool) (e : Exact same) (key : P → 
         (λ x g. c.whole (key p) (suc n) x (sym (has-blocks s (key p)) ∙ h) (ap (λ t. hs t x) (sym (keys (suc n) p)) ∙ g)))
     | inr h ↦
         let unblocked : hs s (Block (key p)) ≡ false = sym (has-blocks s (key p)) ∙ h in
-        let unasked : hs s (Ask (key p)) ≡ false = false_from_ne_true (hs s (Ask (key p))) (λ a. true≢false (sym (d.done (key p) (omega arith) a) ∙ unblocked)) in
-        let s1 : List (Part K) = s ++ (Ask (key p) ∷ []) in
+        let unasked : hs s (Prepare (key p)) ≡ false = false_from_ne_true (hs s (Prepare (key p))) (λ a. true≢false (sym (d.done (key p) (omega arith) a) ∙ unblocked)) in
+        let s1 : List (Part K) = s ++ (Prepare (key p) ∷ []) in
         let F : List (Part P) = flat_map (ex n) (priors (key p)) in
-        let same_blocks : blocks s ≡ blocks s1 = sym (append-nil (blocks s)) ∙ sym (blocks-append s (Ask (key p) ∷ [])) in
+        let same_blocks : blocks s ≡ blocks s1 = sym (append-nil (blocks s)) ∙ sym (blocks-append s (Prepare (key p) ∷ [])) in
         let inner : walks key (walk same key (λ k. priors (key k)) n) (blocks s) (priors (key p)) ≡ kw s1 F =
         ap (λ t. walks key (walk same key (λ k. priors (key k)) n) t (priors (key p))) same_blocks
         ∙ walks-keeps n (rank (key p)) (priors (key p)) s1 (walk-keeps n) (omega arith) (lower (key p)) (asked-closed (key p) s c) (asked-settled (key p) s d) in
         let last : kw (s1 ++ map pk (kw s1 F)) (Block p ∷ []) ≡ Block p ∷ [] = keep-new sp (part-exact same e) pk (s1 ++ map pk (kw s1 F)) (Block p) [] (unblocked-after n (key p) s unblocked) in
         cond-false (has same (blocks s) (key p)) _ _ h
-        ∙ ap (λ t. Ask p ∷ (t ++ (Block p ∷ []))) inner
-        ∙ ap (λ t. Ask p ∷ (kw s1 F ++ t)) (sym last)
-        ∙ ap (λ t. Ask p ∷ t) (sym (keep-append sp (part-exact same e) pk F (Block p ∷ []) s1))
-        ∙ sym (keep-new sp (part-exact same e) pk s (Ask p) (F ++ (Block p ∷ [])) unasked)
+        ∙ ap (λ t. Prepare p ∷ (t ++ (Block p ∷ []))) inner
+        ∙ ap (λ t. Prepare p ∷ (kw s1 F ++ t)) (sym last)
+        ∙ ap (λ t. Prepare p ∷ t) (sym (keep-append sp (part-exact same e) pk F (Block p ∷ []) s1))
+        ∙ sym (keep-new sp (part-exact same e) pk s (Prepare p) (F ++ (Block p ∷ [])) unasked)
   ]
 
   -- the theorem, with what a pair carries besides its key

@@ -11,10 +11,10 @@ pub mod Homes
 pub mod Joined
 pub mod Keeps
 pub mod Keyed
-pub mod LeafTook
-pub mod Leaves
+pub mod TaskTraces
+pub mod TaskInteractions
 pub mod Lone
-pub mod LoneTook
+pub mod LoneTraces
 pub mod Pairs
 pub mod Places
 pub mod Quiet

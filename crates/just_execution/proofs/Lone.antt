@@ -12,7 +12,7 @@ use Rattle.just_run_layers.specs.declared.held.Held.{Held}
 use Rattle.just_run_layers.specs.Evaluation.{Surroundings}
 use Rattle.just_recipe_run.specs.RecipeRun.{recipe_steps}
 use Rattle.just_execution.specs.Arguments.{dependencies_steps}
-use Rattle.just_execution.specs.Leaves.{body_of, consent_by, consent_steps, parameters_steps}
+use Rattle.just_execution.specs.TaskInteractions.{body_of, consent_by, consent_steps, parameters_steps}
 use Rattle.just_execution.specs.Pairs.{AllBelow, at_place}
 use Rattle.just_execution.specs.Scene.{ModuleContents, lone, running}
 use Rattle.just_execution.specs.declared.task.Task.{Task}

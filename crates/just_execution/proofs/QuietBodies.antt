@@ -5,22 +5,22 @@ use Rattle.just_ast_expressions.specs.declared.expression.Expression.{Expression
 use Rattle.just_errors.specs.declared.run_error.RunError.{RunError}
 use Rattle.just_names.specs.Texts.{Text}
 use Rattle.just_run_layers.specs.Host.{Answer, Done, Given, Valued, Scoped, Bound, Paired, Changed, Ran, Refused}
-use Rattle.just_run_layers.specs.Steps.{Give, Steps, and_then}
+use Rattle.just_run_layers.specs.Interactions.{Return, Interaction, and_then}
 use Rattle.just_recipe_body.specs.Attributes.{changes_directory, continues_on, directory_of, first_said, timestamp_of}
 use Rattle.just_recipe_body.specs.Body.{BodyContents, changes_or, directory_steps, environment_steps, format_steps, given, joined_steps, line_steps, prepare_steps, prepared, said_format_steps, show_steps, string_steps, telling_steps, text_or, time_steps, unevaluated, untimed}
 use Rattle.just_recipe_body.specs.Confirmation.{confirm_by, confirm_steps, confirmation_in, line_answered, prompt_steps, said_prompt}
 use Rattle.just_recipe_body.specs.Judging.{judged}
 use Rattle.just_recipe_body.specs.declared.body.Preparation.{Preparation}
-use Rattle.just_recipe_body.specs.declared.judging.Next.{Next}
-use Rattle.just_recipe_body.specs.declared.judging.Next.TheVariants.{Onward, Ended}
-use Rattle.just_recipe_body.specs.declared.judging.Program.TheVariants as program
+use Rattle.just_recipe_body.specs.declared.judgement.Next.{Next}
+use Rattle.just_recipe_body.specs.declared.judgement.Next.TheVariants.{Onward, Ended}
+use Rattle.just_recipe_body.specs.declared.judgement.Program.TheVariants as program
 use Rattle.just_shell_body.specs.Lines.{command_of, group_command_steps, groups, is_skipped, text_steps, trimmed}
 use Rattle.just_shell_body.specs.ShellBody.{call_steps, command_steps, group_steps, groups_steps, is_shown, lines_steps, shell_answered, shell_call, shell_call_steps, shell_steps, show_command_steps, shown_command, teller_of, timed_steps, unless_dry_steps, unless_ended}
 use Rattle.just_shell_body.specs.declared.lines.GroupCommand.{GroupCommand}
 use Rattle.just_execution.proofs.Quiet.{Quiet, failed-not, quiet-then}
 use Rattle.just_execution.proofs.Standing.{memory-not}
 
-pub quiet-cond : {A : Type 0} (test : Bool) (s u : Steps A) → Quiet s → Quiet u → Quiet (cond test s u)
+pub quiet-cond : {A : Type 0} (test : Bool) (s u : Interaction A) → Quiet s → Quiet u → Quiet (cond test s u)
 quiet-cond true s u h l = h
 quiet-cond false s u h l = l
 
@@ -76,7 +76,7 @@ shell-quiet b command (Refused message) = memory-not
 -- what all bodies ask
 pub time-quiet : (o : Option Text) → Quiet (time_steps o)
 time-quiet None = tt
-time-quiet (Some format) = quiet-then (telling_steps format) (λ time. Give (Some time)) (refl, text-quiet untimed) (λ time. tt)
+time-quiet (Some format) = quiet-then (telling_steps format) (λ time. Return (Some time)) (refl, text-quiet untimed) (λ time. tt)
 
 module _ (b : BodyContents) where
   string-quiet : (e : Expression) → Quiet (string_steps b e)
@@ -90,19 +90,19 @@ module _ (b : BodyContents) where
   joined-quiet (Some e) = quiet-then (string_steps b e) _ (string-quiet e) (λ text. tt)
 
   pub directory-quiet : Quiet (directory_steps b)
-  directory-quiet = quiet-cond (changes_directory b.recipe b.context.settings) (joined_steps b (directory_of b.recipe.attributes)) (Give None) (joined-quiet (directory_of b.recipe.attributes)) tt
+  directory-quiet = quiet-cond (changes_directory b.recipe b.context.settings) (joined_steps b (directory_of b.recipe.attributes)) (Return None) (joined-quiet (directory_of b.recipe.attributes)) tt
 
   said-quiet : (o : Option (Option Expression)) → Quiet (said_format_steps b o)
   said-quiet None = tt
   said-quiet (Some None) = tt
-  said-quiet (Some (Some e)) = quiet-then (string_steps b e) (λ text. Give (Some text)) (string-quiet e) (λ text. tt)
+  said-quiet (Some (Some e)) = quiet-then (string_steps b e) (λ text. Return (Some text)) (string-quiet e) (λ text. tt)
 
   pub format-quiet : Quiet (format_steps b)
   format-quiet = said-quiet (timestamp_of b.recipe.attributes)
 
   preparation-quiet : Quiet (prepare_steps b)
-  preparation-quiet = quiet-then (directory_steps b) (λ directory. and_then (format_steps b) (λ format. Give (prepared directory format))) directory-quiet
-      (λ directory. quiet-then (format_steps b) (λ format. Give (prepared directory format)) format-quiet (λ format. tt))
+  preparation-quiet = quiet-then (directory_steps b) (λ directory. and_then (format_steps b) (λ format. Return (prepared directory format))) directory-quiet
+      (λ directory. quiet-then (format_steps b) (λ format. Return (prepared directory format)) format-quiet (λ format. tt))
 
   pub environment-quiet : Quiet (environment_steps b)
   environment-quiet = (refl, changes-quiet)
@@ -126,8 +126,8 @@ module _ (b : BodyContents) where
   group_command-quiet : (lines : List Line) → Quiet (group_command_steps b lines)
   group_command-quiet [] = tt
   group_command-quiet (line ∷ lines) =
-      let made : Text → Steps (Option GroupCommand) = λ text. Give (command_of (b.syntax.sigils line b.context.settings) line lines text) in
-      quiet-cond (is_skipped b.syntax b.context.settings line) (Give None) (and_then (text_steps b false [] (line ∷ lines)) made) tt
+      let made : Text → Interaction (Option GroupCommand) = λ text. Return (command_of (b.syntax.sigils line b.context.settings) line lines text) in
+      quiet-cond (is_skipped b.syntax b.context.settings line) (Return None) (and_then (text_steps b false [] (line ∷ lines)) made) tt
       (quiet-then (text_steps b false [] (line ∷ lines)) made (texts-quiet false [] (line ∷ lines)) (λ text. tt))
 
   module _ (prep : Preparation) where
@@ -136,17 +136,17 @@ module _ (b : BodyContents) where
         (λ changes. (refl, shell-quiet b command))
 
     dry-quiet : (command : GroupCommand) → Quiet (unless_dry_steps b prep command)
-    dry-quiet command = quiet-cond b.context.config.dry_run (Give Onward) (call_steps b prep command) tt (call-quiet command)
+    dry-quiet command = quiet-cond b.context.config.dry_run (Return Onward) (call_steps b prep command) tt (call-quiet command)
 
     timed-quiet : (command : GroupCommand) (time : Option Text) → Quiet (timed_steps b prep command time)
     timed-quiet command time = quiet-then (show_command_steps b command time) (λ _. unless_dry_steps b prep command)
-        (quiet-cond (is_shown b command.marks time) (show_steps (shown_command time command.text)) (Give tt) (refl, λ answer. tt) tt) (λ _. dry-quiet command)
+        (quiet-cond (is_shown b command.marks time) (show_steps (shown_command time command.text)) (Return tt) (refl, λ answer. tt) tt) (λ _. dry-quiet command)
 
     command-quiet : (o : Option GroupCommand) → Quiet (command_steps b prep o)
     command-quiet None = tt
     command-quiet (Some command) = quiet-then (time_steps prep.timestamp_format) (timed_steps b prep command) (time-quiet prep.timestamp_format) (timed-quiet command)
 
-    ended-quiet : (rest : Steps (Unit {0})) → Quiet rest → (next : Next) → Quiet (unless_ended rest next)
+    ended-quiet : (rest : Interaction (Unit {0})) → Quiet rest → (next : Next) → Quiet (unless_ended rest next)
     ended-quiet rest h Onward = h
     ended-quiet rest h Ended = tt
 

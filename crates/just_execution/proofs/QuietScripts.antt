@@ -4,11 +4,11 @@ use Rattle.just_ast_definitions.specs.declared.line.Line.{Line}
 use Rattle.just_names.specs.Texts.{Text}
 use Rattle.just_run_layers.specs.declared.calls.Executor.{Executor}
 use Rattle.just_run_layers.specs.Host.{Answer, Done, Given, Valued, Scoped, Bound, Paired, Changed, Ran, Refused}
-use Rattle.just_run_layers.specs.Steps.{Give, and_then}
+use Rattle.just_run_layers.specs.Interactions.{Return, and_then}
 use Rattle.just_recipe_body.specs.Attributes.{continues_on}
 use Rattle.just_recipe_body.specs.Body.{BodyContents, directory_steps, environment_steps, format_steps, given, line_steps, time_steps}
 use Rattle.just_recipe_body.specs.Judging.{judged, no_marks}
-use Rattle.just_recipe_body.specs.declared.judging.Program.TheVariants as program
+use Rattle.just_recipe_body.specs.declared.judgement.Program.TheVariants as program
 use Rattle.just_script_body.specs.Executors.{executor_of}
 use Rattle.just_script_body.specs.ScriptBody.{begin_steps, call_steps, executed_steps, is_grandiloquent, is_shown, run_steps, script_answered, script_call, script_call_steps, script_steps, show_all_steps, show_if_steps, show_time_steps, shown_call_steps, shown_steps, teller_of, texts_steps, unless_dry_steps}
 use Rattle.just_execution.proofs.Quiet.{Quiet, quiet-then}
@@ -20,7 +20,7 @@ all-quiet [] = tt
 all-quiet (text ∷ texts) = (refl, λ answer. all-quiet texts)
 
 shown-quiet : (test : Bool) (texts : List Text) → Quiet (show_if_steps test texts)
-shown-quiet test texts = quiet-cond test (show_all_steps texts) (Give tt) (all-quiet texts) tt
+shown-quiet test texts = quiet-cond test (show_all_steps texts) (Return tt) (all-quiet texts) tt
 
 module _ (b : BodyContents) where
   answered-quiet : (a : Answer) → Quiet (script_answered b a)
@@ -32,7 +32,7 @@ module _ (b : BodyContents) where
   answered-quiet (Paired pairs) = memory-not
   answered-quiet (Changed changes) = memory-not
   answered-quiet (Ran answer) =
-      quiet-then (given (judged program.Script (teller_of b) (continues_on b.recipe) no_marks answer)) (λ next. Give tt) (quiet-given (judged program.Script (teller_of b) (continues_on b.recipe) no_marks answer)) (λ next. tt)
+      quiet-then (given (judged program.Script (teller_of b) (continues_on b.recipe) no_marks answer)) (λ next. Return tt) (quiet-given (judged program.Script (teller_of b) (continues_on b.recipe) no_marks answer)) (λ next. tt)
   answered-quiet (Refused message) = memory-not
 
   told-quiet : (time : Option Text) → Quiet (show_time_steps b time)
@@ -45,8 +45,8 @@ module _ (b : BodyContents) where
 
   texts-quiet : (lines : List Line) → Quiet (texts_steps b lines)
   texts-quiet [] = tt
-  texts-quiet (line ∷ lines) = quiet-then (line_steps b line false) (λ text. and_then (texts_steps b lines) (λ texts. Give (text ∷ texts))) (line-quiet b line false)
-      (λ text. quiet-then (texts_steps b lines) (λ texts. Give (text ∷ texts)) (texts-quiet lines) (λ texts. tt))
+  texts-quiet (line ∷ lines) = quiet-then (line_steps b line false) (λ text. and_then (texts_steps b lines) (λ texts. Return (text ∷ texts))) (line-quiet b line false)
+      (λ text. quiet-then (texts_steps b lines) (λ texts. Return (text ∷ texts)) (texts-quiet lines) (λ texts. tt))
 
   call-quiet : (texts : List Text) (executor : Executor) (directory : Option Text) → Quiet (shown_call_steps b executor texts directory)
   call-quiet texts executor directory =
@@ -59,7 +59,7 @@ module _ (b : BodyContents) where
 
   lines-quiet : (texts : List Text) → Quiet (shown_steps b texts)
   lines-quiet texts = quiet-then (show_if_steps (is_shown b) texts) (λ _. unless_dry_steps b texts) (shown-quiet (is_shown b) texts)
-      (λ _. quiet-cond b.context.config.dry_run (Give tt) (run_steps b texts) tt (run-quiet texts))
+      (λ _. quiet-cond b.context.config.dry_run (Return tt) (run_steps b texts) tt (run-quiet texts))
 
   pub script_body-quiet : Quiet (script_steps b)
   script_body-quiet = quiet-then (begin_steps b) (λ _. and_then (texts_steps b b.recipe.body) (shown_steps b)) begin-quiet

@@ -4,17 +4,17 @@ use Rattle.std.specs.Prelude.{flat_map}
 use Rattle.std.proofs.lemmas.Bool.{or_cases, or_left, or_right, true≢false}
 use Rattle.just_graph.proofs.Members.{In}
 use Rattle.just_execution.specs.Firsts.{has}
-use Rattle.just_execution.specs.Expansion.{Part, Ask, Block, same_part, expansion}
+use Rattle.just_execution.specs.Expansion.{Part, Prepare, Block, same_part, expansion}
 use Rattle.just_execution.proofs.Walks.{blocks}
 use Rattle.just_execution.proofs.Keeps.{Exact, has-append}
 
 abbrev pub pair_of : {P : Type 0} → Part P → P
-pair_of (Ask p) = p
+pair_of (Prepare p) = p
 pair_of (Block p) = p
 
 pub blocks-append : {P : Type 0} → (xs ys : List (Part P)) → blocks (xs ++ ys) ≡ blocks xs ++ blocks ys
 blocks-append [] ys = refl
-blocks-append (Ask p ∷ xs) ys = blocks-append xs ys
+blocks-append (Prepare p ∷ xs) ys = blocks-append xs ys
 blocks-append (Block p ∷ xs) ys = ap (λ t. p ∷ t) (blocks-append xs ys)
 
 -- all of them are of lower rank
@@ -23,13 +23,13 @@ Below rank k [] = Unit {0}
 Below rank k (q ∷ qs) = (rank q < k) × Below rank k qs
 
 part-itself : {P : Type 0} (same : P → P → Bool) → Exact same → (x : Part P) → same_part same x x ≡ true
-part-itself same e (Ask p) = e.itself p
+part-itself same e (Prepare p) = e.itself p
 part-itself same e (Block p) = e.itself p
 
 part-only : {P : Type 0} (same : P → P → Bool) → Exact same → (x y : Part P) → same_part same x y ≡ true → x ≡ y
-part-only same e (Ask p) (Ask q) h = ap (λ r. Ask r) (e.only p q h)
-part-only same e (Ask p) (Block q) h = absurd (true≢false (sym h))
-part-only same e (Block p) (Ask q) h = absurd (true≢false (sym h))
+part-only same e (Prepare p) (Prepare q) h = ap (λ r. Prepare r) (e.only p q h)
+part-only same e (Prepare p) (Block q) h = absurd (true≢false (sym h))
+part-only same e (Block p) (Prepare q) h = absurd (true≢false (sym h))
 part-only same e (Block p) (Block q) h = ap (λ r. Block r) (e.only p q h)
 
 pub part-exact : {P : Type 0} (same : P → P → Bool) → Exact same → Exact (same_part same)
@@ -62,23 +62,23 @@ module _ {P : Type 0} (same : P → P → Bool) (e : Exact same) (priors : P →
   abbrev pub ex : ℕ → P → List (Part P)
   ex n p = expansion priors n p
 
-  pub ex-from : (n : ℕ) (p : P) (x : Part P) → hs (ex (suc n) p) x ≡ true → (Ask p ≡ x) ⊎ (((q : P) × (In q (priors p) × (hs (ex n q) x ≡ true))) ⊎ (Block p ≡ x))
-  ex-from n p x h = elim (or_cases (sp (Ask p) x) _ h) [
-    | inl k ↦ inl (part-only same e (Ask p) x k)
+  pub ex-from : (n : ℕ) (p : P) (x : Part P) → hs (ex (suc n) p) x ≡ true → (Prepare p ≡ x) ⊎ (((q : P) × (In q (priors p) × (hs (ex n q) x ≡ true))) ⊎ (Block p ≡ x))
+  ex-from n p x h = elim (or_cases (sp (Prepare p) x) _ h) [
+    | inl k ↦ inl (part-only same e (Prepare p) x k)
     | inr k ↦ inr (elim (or_cases (hs (flat_map (ex n) (priors p)) x) (sp (Block p) x || false) (sym (has-append sp (flat_map (ex n) (priors p)) (Block p ∷ []) x) ∙ k)) [
       | inl l ↦ inl (flat-from sp (ex n) x (priors p) l)
       | inr l ↦ inr (elim (or_cases (sp (Block p) x) false l) [ inl m ↦ part-only same e (Block p) x m | inr m ↦ absurd (true≢false (sym m)) ])
     ])
   ]
 
-  pub ex-ask : (n : ℕ) (p : P) → hs (ex (suc n) p) (Ask p) ≡ true
+  pub ex-ask : (n : ℕ) (p : P) → hs (ex (suc n) p) (Prepare p) ≡ true
   ex-ask n p = or_left (same p p) _ (e.itself p)
 
   pub ex-block : (n : ℕ) (p : P) → hs (ex (suc n) p) (Block p) ≡ true
   ex-block n p = has-append sp (flat_map (ex n) (priors p)) (Block p ∷ []) (Block p) ∙ or_right (hs (flat_map (ex n) (priors p)) (Block p)) (same p p || false) (or_left (same p p) false (e.itself p))
 
   pub ex-prior : (n : ℕ) (p q : P) (x : Part P) → In q (priors p) → hs (ex n q) x ≡ true → hs (ex (suc n) p) x ≡ true
-  ex-prior n p q x i h = or_right (sp (Ask p) x) _ (has-append sp (flat_map (ex n) (priors p)) (Block p ∷ []) x ∙ or_left (hs (flat_map (ex n) (priors p)) x) (sp (Block p) x || false) (flat-to sp (ex n) x q (priors p) i h))
+  ex-prior n p q x i h = or_right (sp (Prepare p) x) _ (has-append sp (flat_map (ex n) (priors p)) (Block p ∷ []) x ∙ or_left (hs (flat_map (ex n) (priors p)) x) (sp (Block p) x || false) (flat-to sp (ex n) x q (priors p) i h))
 
   -- what stands in an expansion is of no greater rank
   pub ex-rank : (n : ℕ) (p : P) (x : Part P) → hs (ex n p) x ≡ true → rank (pair_of x) ≤ rank p
@@ -109,7 +109,7 @@ module _ {P : Type 0} (same : P → P → Bool) (e : Exact same) (priors : P →
   pub ex-within : (n m : ℕ) (p q : P) (x : Part P) → rank p < n → hs (ex n p) (Block q) ≡ true → hs (ex m q) x ≡ true → hs (ex n p) x ≡ true
   ex-within zero m p q x l h g = absurd (omega arith)
   ex-within (suc n) m p q x l h g = elim (ex-from n p (Block q) h) [
-    | inl k ↦ absurd (true≢false (sym (ap (sp (Ask p)) (sym k) ∙ e.itself p)))
+    | inl k ↦ absurd (true≢false (sym (ap (sp (Prepare p)) (sym k) ∙ e.itself p)))
     | inr (inl k) ↦
         let b : rank k.0 < rank p = below-in rank (rank p) k.0 (priors p) (lower p) k.1.0 in
         let c : rank k.0 < n = omega arith in
@@ -118,9 +118,9 @@ module _ {P : Type 0} (same : P → P → Bool) (e : Exact same) (priors : P →
   ]
 
   -- with its questions each pair in it has its block
-  pub ex-both : (n : ℕ) (p q : P) → hs (ex n p) (Ask q) ≡ true → hs (ex n p) (Block q) ≡ true
+  pub ex-both : (n : ℕ) (p q : P) → hs (ex n p) (Prepare q) ≡ true → hs (ex n p) (Block q) ≡ true
   ex-both zero p q h = absurd (true≢false (sym h))
-  ex-both (suc n) p q h = elim (ex-from n p (Ask q) h) [
+  ex-both (suc n) p q h = elim (ex-from n p (Prepare q) h) [
     | inl k ↦ subst (λ t. hs (ex (suc n) p) (Block t) ≡ true) (ap pair_of k) (ex-block n p)
     | inr (inl k) ↦ ex-prior n p k.0 (Block q) k.1.0 (ex-both n k.0 q k.1.1)
     | inr (inr k) ↦ absurd (true≢false (sym (ap (sp (Block p)) (sym k) ∙ e.itself p)))

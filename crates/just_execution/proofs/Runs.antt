@@ -6,17 +6,17 @@ use Rattle.just_run_layers.specs.declared.host.Entry.{Entry}
 use Rattle.just_errors.specs.Halts.{without}
 use Rattle.just_run_layers.specs.Evaluation.{Inquiry}
 use Rattle.just_run_layers.specs.Host.{Answer}
-use Rattle.just_run_layers.specs.Steps.{Kept, both, path, outcome, Follows}
-use Rattle.just_execution.specs.declared.running.Report.{Report}
+use Rattle.just_run_layers.specs.Interactions.{Log, both, trace_under, result_under, IsTraceOrPrefix}
+use Rattle.just_execution.specs.declared.run.Report.{Report}
 use Rattle.just_execution.specs.declared.task.Task.{Task}
-use Rattle.just_execution.specs.Leaves.{leaves_of}
+use Rattle.just_execution.specs.TaskInteractions.{interactions_of}
 use Rattle.just_execution.specs.Pairs.{AllBelow}
 use Rattle.just_recipe.specs.Recipes.{IsOrdered}
-use Rattle.just_execution.specs.Reports.{calls_in, IsRun, IsAsExpected, Starts, expected_steps}
+use Rattle.just_execution.specs.Reports.{calls_in, IsRun, TasksRunAsExpected, HasRunTrace, expected_steps}
 use Rattle.just_execution.specs.Scene.{Scene}
 use Rattle.just_execution.specs.Walking.{fresh_steps, walk_steps}
 use Rattle.just_execution.proofs.Accounted.{fresh-account}
-use Rattle.just_execution.proofs.Leaves.{leaves-lower}
+use Rattle.just_execution.proofs.TaskInteractions.{leaves-lower}
 use Rattle.just_execution.proofs.Told.{took-run}
 use Rattle.just_execution.proofs.Whole.{fresh-run}
 
@@ -24,14 +24,14 @@ without-calls : (r : Result Report Halt) → without (calls_in r) ≡ without r
 without-calls (Ok report) = refl
 without-calls (Err e) = refl
 
-module _ (scene : Scene) (ordered : IsOrdered scene.recipes) (e : Inquiry → Option Answer) (h : Entry → Option Answer) (tops : List Task) (below : AllBelow (length scene.recipes) tops) (old new : Kept) (r : Result Report Halt)
-    (took : Starts e h scene tops old new r) where
+module _ (scene : Scene) (ordered : IsOrdered scene.recipes) (e : Inquiry → Option Answer) (h : Entry → Option Answer) (tops : List Task) (below : AllBelow (length scene.recipes) tops) (old new : Log) (r : Result Report Halt)
+    (took : HasRunTrace e h scene tops old new r) where
   pub account-run : IsRun scene.recipes tops old new r
   account-run = let a = fresh-account scene ordered (both e h) tops below old new (calls_in r) took in record { tables = a.0; account = a.1; tells = a.2 }
 
-  pub expected-run : IsAsExpected e h scene tops old new r
+  pub expected-run : TasksRunAsExpected e h scene tops old new r
   expected-run = λ f steady even.
       let steps = expected_steps scene f tops in
-      subst (Follows (path f steps) (outcome f steps) old new) (without-calls r)
-      (took-run (both e h) f (fresh_steps (walk_steps (leaves_of scene) (length scene.recipes)) tops []) steps old new (calls_in r)
-      (fresh-run (leaves_of scene) (leaves-lower scene ordered) f (length scene.recipes) tops [] below even) steady took)
+      subst (IsTraceOrPrefix (trace_under f steps) (result_under f steps) old new) (without-calls r)
+      (took-run (both e h) f (fresh_steps (walk_steps (interactions_of scene) (length scene.recipes)) tops []) steps old new (calls_in r)
+      (fresh-run (interactions_of scene) (leaves-lower scene ordered) f (length scene.recipes) tops [] below even) steady took)

@@ -9,15 +9,15 @@ use Rattle.just_run_layers.specs.declared.held.Held.{Held}
 use Rattle.just_run_layers.specs.declared.host.Entry.{Entry}
 use Rattle.just_run_layers.specs.Evaluation.{Inquiry}
 use Rattle.just_run_layers.specs.Host.{Answer}
-use Rattle.just_run_layers.specs.Steps.{Follows, and_then, IsSteady, Kept, Question, Took, both, outcome, path}
+use Rattle.just_run_layers.specs.Interactions.{IsTraceOrPrefix, and_then, ArePromised, Log, Question, HasTrace, both, result_under, trace_under}
 use Rattle.just_parts.specs.Syntax.{SyntaxAnswers}
 use Rattle.just_paths.specs.declared.modulepath.Modulepath.{Modulepath}
-use Rattle.just_execution.specs.Leaves.{after_steps, ask_in, ask_steps, begin_steps, execute_at, execute_steps, follow_in, follow_steps, leaves_of, prepare_steps, run_in}
-use Rattle.just_execution.specs.Reports.{IsAsExpected, Starts, calls_in}
-use Rattle.just_execution.specs.Run.{IsEven, run_steps}
+use Rattle.just_execution.specs.TaskInteractions.{after_steps, ask_in, ask_steps, begin_steps, execute_at, execute_steps, follow_in, follow_steps, interactions_of, prepare_steps, run_in}
+use Rattle.just_execution.specs.Reports.{TasksRunAsExpected, HasRunTrace, calls_in}
+use Rattle.just_execution.specs.Run.{PriorsIgnoreFlag, run_steps}
 use Rattle.just_execution.specs.Scene.{AreAlike, ModuleContents, Scene}
-use Rattle.just_execution.specs.Walking.{Leaves, fresh_steps, walk_steps}
-use Rattle.just_execution.specs.declared.running.Report.{Report}
+use Rattle.just_execution.specs.Walking.{TaskInteractions, fresh_steps, walk_steps}
+use Rattle.just_execution.specs.declared.run.Report.{Report}
 use Rattle.just_execution.specs.declared.task.Task.{Task}
 use Rattle.just_execution.proofs.Homes.{All-got}
 
@@ -52,31 +52,31 @@ module _ (syntax : SyntaxAnswers) (recipes : List (Recipe Dependency)) (ms ns : 
   same-executed : (t : Task) (h : Held) → execute_steps (scene syntax recipes ms) t h ≡ execute_steps (scene syntax recipes ns) t h
   same-executed t h = same-executed-at t h (slice_get recipes t.pair.recipe) refl
 
-  same-parts : leaves_of (scene syntax recipes ms) ≡ leaves_of (scene syntax recipes ns)
+  same-parts : interactions_of (scene syntax recipes ms) ≡ interactions_of (scene syntax recipes ns)
   same-parts = λ i. record { ask = λ t. same-asked t i; execute = λ t h. same-executed t h i; follow = λ t h. same-followed t h i }
 
-pub same-leaves : (first second : Scene) → AreAlike first second → leaves_of first ≡ leaves_of second
+pub same-leaves : (first second : Scene) → AreAlike first second → interactions_of first ≡ interactions_of second
 same-leaves first second alike =
     same-parts first.syntax first.recipes first.modules second.modules alike.modules
-    ∙ ap (λ (syntax : SyntaxAnswers). leaves_of (scene syntax first.recipes second.modules)) alike.syntax
-    ∙ ap (λ rs. leaves_of (scene second.syntax rs second.modules)) alike.recipes
+    ∙ ap (λ (syntax : SyntaxAnswers). interactions_of (scene syntax first.recipes second.modules)) alike.syntax
+    ∙ ap (λ rs. interactions_of (scene second.syntax rs second.modules)) alike.recipes
 
 -- so a run in one of them is one in the other
-module _ (e : Inquiry → Option Answer) (h : Entry → Option Answer) (tops : List Task) (old new : Kept) (r : Result Report Halt) where
-  abbrev IsStarted : Leaves → ℕ → Type 0
-  IsStarted leaves n = Took (both e h) (fresh_steps (walk_steps leaves n) tops []) old new (calls_in r)
+module _ (e : Inquiry → Option Answer) (h : Entry → Option Answer) (tops : List Task) (old new : Log) (r : Result Report Halt) where
+  abbrev IsStarted : TaskInteractions → ℕ → Type 0
+  IsStarted of_task n = HasTrace (both e h) (fresh_steps (walk_steps of_task n) tops []) old new (calls_in r)
 
-  abbrev IsExpectedBy : Leaves → ℕ → Type 0
-  IsExpectedBy leaves n =
-      (f : Question → Answer) → IsSteady (both e h) f (path f (run_steps leaves f n tops)) → IsEven leaves f n tops →
-      Follows (path f (run_steps leaves f n tops)) (outcome f (run_steps leaves f n tops)) old new (without r)
+  abbrev IsExpectedBy : TaskInteractions → ℕ → Type 0
+  IsExpectedBy of_task n =
+      (f : Question → Answer) → ArePromised (both e h) f (trace_under f (run_steps of_task f n tops)) → PriorsIgnoreFlag of_task f n tops →
+      IsTraceOrPrefix (trace_under f (run_steps of_task f n tops)) (result_under f (run_steps of_task f n tops)) old new (without r)
 
   module _ (first second : Scene) (alike : AreAlike first second) where
-    carried : (P : Leaves → ℕ → Type 0) → P (leaves_of first) (length first.recipes) → P (leaves_of second) (length second.recipes)
-    carried P x = subst (λ rs. P (leaves_of second) (length rs)) alike.recipes (subst (λ leaves. P leaves (length first.recipes)) (same-leaves first second alike) x)
+    carried : (P : TaskInteractions → ℕ → Type 0) → P (interactions_of first) (length first.recipes) → P (interactions_of second) (length second.recipes)
+    carried P x = subst (λ rs. P (interactions_of second) (length rs)) alike.recipes (subst (λ of_task. P of_task (length first.recipes)) (same-leaves first second alike) x)
 
-    pub same-start : Starts e h first tops old new r → Starts e h second tops old new r
+    pub same-start : HasRunTrace e h first tops old new r → HasRunTrace e h second tops old new r
     same-start started = carried IsStarted started
 
-    pub same-expected : IsAsExpected e h first tops old new r → IsAsExpected e h second tops old new r
+    pub same-expected : TasksRunAsExpected e h first tops old new r → TasksRunAsExpected e h second tops old new r
     same-expected expected = carried IsExpectedBy expected

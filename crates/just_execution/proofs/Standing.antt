@@ -10,9 +10,9 @@ use Rattle.just_errors.specs.declared.halt.Halt.{Halt}
 use Rattle.just_errors.specs.declared.halt.Halt.TheVariants.{Memory, Exhausted}
 use Rattle.just_recipe.specs.declared.recipe.Recipe.{Recipe}
 use Rattle.just_run_layers.specs.Host.{Answer}
-use Rattle.just_run_layers.specs.Steps.{Kept, executed_in, Question, Steps, Give, Fail, and_then, Took}
+use Rattle.just_run_layers.specs.Interactions.{Log, executed_in, Question, Interaction, Return, Fail, and_then, HasTrace}
 use Rattle.just_execution.specs.declared.pair.Pair.{Pair}
-use Rattle.just_execution.specs.Account.{Asked, OnceTables, Empty, Asks, Runs, own, begun, executions, AreIn, known, AreNamed, AskFits, RunFits, Fits, Complete, prior_count, asked_count, counts_below, counts, IsFullBelow, IsFull}
+use Rattle.just_execution.specs.Account.{AskedTask, OnceTables, Empty, Asked, Began, own, begun, executions, AreIn, known, AreNamed, AskFits, RunFits, FitsTables, Complete, prior_count, asked_count, counts_below, counts, IsFullBelow, IsFull}
 use Rattle.just_execution.specs.Firsts.{has}
 use Rattle.just_execution.specs.declared.task.Task.{Task}
 use Rattle.just_execution.specs.Pairs.{OnceTable, put, same_pair, prior_dependencies, subsequent_dependencies}
@@ -34,7 +34,7 @@ pub memory-not : Memory ≡ Exhausted → ⊥
 memory-not h = cc
 
 -- where a run stands before some tasks
-pub record Stands (tops : List Task) (before : List Asked) (done : List Pair) (bound : ℕ) (s : State) (ts : List Task) : Type 0 where
+pub record Stands (tops : List Task) (before : List AskedTask) (done : List Pair) (bound : ℕ) (s : State) (ts : List Task) : Type 0 where
   pub known_all : All (λ (q : Task). In q (known tops before)) ts
   pub table : s.table ≡ has same_pair done
   pub settled : Settled bound before done
@@ -53,18 +53,18 @@ pub record Walked (recipes : List (Recipe Dependency)) (done : List Pair) (ts : 
   pub even : asked_count u ≡ prior_count u
 
 -- some tasks under a table, and what happened
-pub record Accounts (recipes : List (Recipe Dependency)) (tops : List Task) (before : List Asked) (done : List Pair) (bound : ℕ) (s : State) (ts : List Task)
-    (old new : Kept) (r : Result State Halt) (u : OnceTables) : Type 0 where
+pub record Accounts (recipes : List (Recipe Dependency)) (tops : List Task) (before : List AskedTask) (done : List Pair) (bound : ℕ) (s : State) (ts : List Task)
+    (old new : Log) (r : Result State Halt) (u : OnceTables) : Type 0 where
   pub gained : executed_in new ≡ executed_in old ++ executions recipes (begun u)
-  pub fits : Fits recipes tops before done u
+  pub fits : FitsTables recipes tops before done u
   pub low : AllLow bound (own u)
   pub whole : (now : State) → r ≡ Ok now → Walked recipes done ts s now u
   pub full : r ≡ Err Exhausted → (2 ^ 64 ≤ length (known tops (before ++ asks u))) ⊎ IsFullBelow u
 
 -- tasks under a table of their own, and what happened
-pub record IsFresh (recipes : List (Recipe Dependency)) (ts : List Task) (calls : List ℕ) (old new : Kept) (r : Result (List ℕ) Halt) (u : OnceTables) : Type 0 where
+pub record IsFresh (recipes : List (Recipe Dependency)) (ts : List Task) (calls : List ℕ) (old new : Log) (r : Result (List ℕ) Halt) (u : OnceTables) : Type 0 where
   pub gained : executed_in new ≡ executed_in old ++ executions recipes (begun u)
-  pub fits : Fits recipes ts [] [] u
+  pub fits : FitsTables recipes ts [] [] u
   pub whole : (now : List ℕ) → r ≡ Ok now → AreIn (own u) ts × Complete recipes u × (now ≡ calls ++ counts ts u)
   pub full : r ≡ Err Exhausted → IsFull ts u
 
@@ -79,19 +79,19 @@ pub record IsBlock (recipes : List (Recipe Dependency)) (t : Task) (ps : List Ta
   pub counts : now ≡ calls ++ counts_below u
 
 -- the block of a task, and what happened
-pub record Blocks (recipes : List (Recipe Dependency)) (tops : List Task) (before : List Asked) (done : List Pair) (t : Task) (ps : List Task) (calls : List ℕ)
-    (old new : Kept) (r : Result (List ℕ) Halt) (u : OnceTables) : Type 0 where
+pub record Blocks (recipes : List (Recipe Dependency)) (tops : List Task) (before : List AskedTask) (done : List Pair) (t : Task) (ps : List Task) (calls : List ℕ)
+    (old new : Log) (r : Result (List ℕ) Halt) (u : OnceTables) : Type 0 where
   pub gained : executed_in new ≡ executed_in old ++ executions recipes (begun u)
-  pub fits : Fits recipes tops before done u
+  pub fits : FitsTables recipes tops before done u
   pub low : AllLow (suc t.pair.recipe) (own u)
   pub whole : (now : List ℕ) → r ≡ Ok now → IsBlock recipes t ps calls now u
   pub full : r ≡ Err Exhausted → IsFullBelow u
 
 -- nothing happened but a call
-pub gained-none : (recipes : List (Recipe Dependency)) (old new : Kept) → executed_in new ≡ executed_in old → executed_in new ≡ executed_in old ++ executions recipes []
+pub gained-none : (recipes : List (Recipe Dependency)) (old new : Log) → executed_in new ≡ executed_in old → executed_in new ≡ executed_in old ++ executions recipes []
 gained-none recipes old new n = n ∙ sym (append-nil (executed_in old))
 
-pub gave : (recipes : List (Recipe Dependency)) (tops : List Task) (before : List Asked) (done : List Pair) (bound : ℕ) (s now : State) (ts : List Task) (old new : Kept)
+pub gave : (recipes : List (Recipe Dependency)) (tops : List Task) (before : List AskedTask) (done : List Pair) (bound : ℕ) (s now : State) (ts : List Task) (old new : Log)
     (r : Result State Halt) →
     now.number ≡ s.number → now.table ≡ has same_pair done → now.calls ≡ add_at s.calls s.number (length ts) → AreIn done ts → new ≡ old → (r ≡ Ok now) ⊎ (r ≡ Err Memory) →
     Accounts recipes tops before done bound s ts old new r Empty
@@ -122,9 +122,9 @@ gave recipes tops before done bound s now ts old new r m t c d n h =
     }
 
 -- what failed
-pub broke : (recipes : List (Recipe Dependency)) (tops : List Task) (before : List Asked) (done : List Pair) (bound : ℕ) (s : State) (ts : List Task) (old new : Kept)
+pub broke : (recipes : List (Recipe Dependency)) (tops : List Task) (before : List AskedTask) (done : List Pair) (bound : ℕ) (s : State) (ts : List Task) (old new : Log)
     (r : Result State Halt) (u : OnceTables) (e : Halt) →
-    r ≡ Err e → executed_in new ≡ executed_in old ++ executions recipes (begun u) → Fits recipes tops before done u → AllLow bound (own u) →
+    r ≡ Err e → executed_in new ≡ executed_in old ++ executions recipes (begun u) → FitsTables recipes tops before done u → AllLow bound (own u) →
     (e ≡ Exhausted → (2 ^ 64 ≤ length (known tops (before ++ asks u))) ⊎ IsFullBelow u) → Accounts recipes tops before done bound s ts old new r u
 broke recipes tops before done bound s ts old new r u e h g f l k = record {
   gained = g;
@@ -135,7 +135,7 @@ broke recipes tops before done bound s ts old new r u e h g f l k = record {
 }
 
 -- one task, and where the run stands then
-pub stands-then : (recipes : List (Recipe Dependency)) (tops : List Task) (before : List Asked) (done : List Pair) (bound : ℕ) (s now : State) (t : Task) (ts : List Task) (u : OnceTables) →
+pub stands-then : (recipes : List (Recipe Dependency)) (tops : List Task) (before : List AskedTask) (done : List Pair) (bound : ℕ) (s now : State) (t : Task) (ts : List Task) (u : OnceTables) →
     Stands tops before done bound s (t ∷ ts) → Walked recipes done (t ∷ []) s now u → Stands tops (before ++ asks u) (done ++ own u) bound now ts
 stands-then recipes tops before done bound s now t ts u a w =
     let calls : List ℕ = add_at s.calls s.number (1 + prior_count u) ++ counts_below u in
@@ -151,7 +151,7 @@ stands-then recipes tops before done bound s now t ts u a w =
       counter = omega (arith, same, here, a.counter, length-known tops before u, w.even);
     }
 
-pub stands-low : (tops : List Task) (before : List Asked) (done : List Pair) (k n : ℕ) (s : State) (t : Task) (ts : List Task) → k ≤ n → Stands tops before done n s (t ∷ ts) →
+pub stands-low : (tops : List Task) (before : List AskedTask) (done : List Pair) (k n : ℕ) (s : State) (t : Task) (ts : List Task) → k ≤ n → Stands tops before done n s (t ∷ ts) →
     Stands tops before done k s (t ∷ [])
 stands-low tops before done k n s t ts l a = record {
   known_all = All-cons (λ (q : Task). In q (known tops before)) t [] (All-head (λ (q : Task). In q (known tops before)) t ts a.known_all) (All-nil (λ (q : Task). In q (known tops before)));
@@ -182,13 +182,13 @@ walked-then recipes done t ts s now end u v n a b =
       even = even-join u v a.even b.even;
     }
 
-full-then : (tops : List Task) (before : List Asked) (u v : OnceTables) → (2 ^ 64 ≤ length (known tops ((before ++ asks u) ++ asks v))) ⊎ IsFullBelow v →
+full-then : (tops : List Task) (before : List AskedTask) (u v : OnceTables) → (2 ^ 64 ≤ length (known tops ((before ++ asks u) ++ asks v))) ⊎ IsFullBelow v →
     (2 ^ 64 ≤ length (known tops (before ++ asks (join u v)))) ⊎ IsFullBelow (join u v)
 full-then tops before u v (inl h) = inl (subst (λ as0. 2 ^ 64 ≤ length (known tops as0)) (joined-asks u v before) h)
 full-then tops before u v (inr h) = inr (full-join u v h)
 
-pub accounts-then : (recipes : List (Recipe Dependency)) (tops : List Task) (before : List Asked) (done : List Pair) (k bound : ℕ) (s now : State) (t : Task) (ts : List Task)
-    (old mid new : Kept) (r : Result State Halt) (u v : OnceTables) →
+pub accounts-then : (recipes : List (Recipe Dependency)) (tops : List Task) (before : List AskedTask) (done : List Pair) (k bound : ℕ) (s now : State) (t : Task) (ts : List Task)
+    (old mid new : Log) (r : Result State Halt) (u v : OnceTables) →
     k ≤ bound → s.number < length s.calls → Accounts recipes tops before done k s (t ∷ []) old mid (Ok now) u →
     Accounts recipes tops (before ++ asks u) (done ++ own u) bound now ts mid new r v →
     Accounts recipes tops before done bound s (t ∷ ts) old new r (join u v)
@@ -202,32 +202,32 @@ accounts-then recipes tops before done k bound s now t ts old mid new r u v l n 
       full = λ h. full-then tops before u v (b.full h);
     }
 
-pub accounts-broke : (recipes : List (Recipe Dependency)) (tops : List Task) (before : List Asked) (done : List Pair) (k bound : ℕ) (s : State) (t : Task) (ts : List Task)
-    (old new : Kept) (r : Result State Halt) (e : Halt) (u : OnceTables) →
+pub accounts-broke : (recipes : List (Recipe Dependency)) (tops : List Task) (before : List AskedTask) (done : List Pair) (k bound : ℕ) (s : State) (t : Task) (ts : List Task)
+    (old new : Log) (r : Result State Halt) (e : Halt) (u : OnceTables) →
     k ≤ bound → r ≡ Err e → Accounts recipes tops before done k s (t ∷ []) old new (Err e) u → Accounts recipes tops before done bound s (t ∷ ts) old new r u
 accounts-broke recipes tops before done k bound s t ts old new r e u l h a =
     broke recipes tops before done bound s (t ∷ ts) old new r u e h a.gained a.fits (AllLow-more k bound (own u) l a.low) (λ j. a.full (ap (λ x. Err x) j))
 
 -- a call is counted, unless the last number was reached
-pub count-split : {A : Type 0} (p : Question → Option Answer) (c limit : ℕ) (x : State) (next : State → Steps A) (old new : Kept) (r : Result A Halt) →
-    Took p (and_then (cond (c + 1 == limit) (Fail Exhausted) (Give x)) next) old new r →
-    (((new ≡ old) × (c + 1 ≡ limit) × (r ≡ Err Exhausted)) ⊎ ((new ≡ old) × (r ≡ Err Memory))) ⊎ Took p (next x) old new r
+pub count-split : {A : Type 0} (p : Question → Option Answer) (c limit : ℕ) (x : State) (next : State → Interaction A) (old new : Log) (r : Result A Halt) →
+    HasTrace p (and_then (cond (c + 1 == limit) (Fail Exhausted) (Return x)) next) old new r →
+    (((new ≡ old) × (c + 1 ≡ limit) × (r ≡ Err Exhausted)) ⊎ ((new ≡ old) × (r ≡ Err Memory))) ⊎ HasTrace p (next x) old new r
 count-split {A} p c limit x next old new r t = elim (cases_Bool (c + 1 == limit)) [
   | inl h ↦
-      let f : Took p (Fail Exhausted) old new r = subst (λ (s : Steps State). Took p (and_then s next) old new r) (cond-true (c + 1 == limit) (Fail Exhausted) (Give x) h) t in
+      let f : HasTrace p (Fail Exhausted) old new r = subst (λ (s : Interaction State). HasTrace p (and_then s next) old new r) (cond-true (c + 1 == limit) (Fail Exhausted) (Return x) h) t in
       elim (f.1) [ inl e ↦ inl (inl (f.0, eqb-true (c + 1) limit h, e)) | inr e ↦ inl (inr (f.0, e)) ]
-  | inr h ↦ inr (subst (λ (s : Steps State). Took p (and_then s next) old new r) (cond-false (c + 1 == limit) (Fail Exhausted) (Give x) h) t)
+  | inr h ↦ inr (subst (λ (s : Interaction State). HasTrace p (and_then s next) old new r) (cond-false (c + 1 == limit) (Fail Exhausted) (Return x) h) t)
 ]
 
 -- where no more calls can be counted, as many tasks are known
-pub full-here : (tops : List Task) (before : List Asked) (done : List Pair) (bound : ℕ) (s : State) (t : Task) (limit : ℕ) → Stands tops before done bound s (t ∷ []) →
+pub full-here : (tops : List Task) (before : List AskedTask) (done : List Pair) (bound : ℕ) (s : State) (t : Task) (limit : ℕ) → Stands tops before done bound s (t ∷ []) →
     get_or s.calls s.number 0 + 1 ≡ limit → limit ≤ length (known tops (before ++ []))
 full-here tops before done bound s t limit a h =
     let l : get_or s.calls s.number 0 + 1 ≤ length (known tops before) = a.counter in
     subst (λ as0. limit ≤ length (known tops as0)) (sym (append-nil before)) (omega (arith, l, h))
 
 -- the call is counted, and the priors are asked for
-pub stands-asked : (tops : List Task) (before : List Asked) (done : List Pair) (s : State) (t : Task) (ps : List Task) →
+pub stands-asked : (tops : List Task) (before : List AskedTask) (done : List Pair) (s : State) (t : Task) (ps : List Task) →
     Stands tops before done (suc t.pair.recipe) s (t ∷ []) → Stands tops (before ++ with_priors t ps ∷ []) done t.pair.recipe (counted s) ps
 stands-asked tops before done s t ps a =
     let one : add_at s.calls s.number 1 ++ [] ≡ add_at s.calls s.number 1 = append-nil (add_at s.calls s.number 1) in
@@ -252,20 +252,20 @@ stands-opened ts bound calls = record {
 }
 
 -- what is asked first
-full-asked : (tops : List Task) (before : List Asked) (a : Asked) (u : OnceTables) → (2 ^ 64 ≤ length (known tops ((before ++ a ∷ []) ++ asks u))) ⊎ IsFullBelow u →
-    (2 ^ 64 ≤ length (known tops (before ++ asks (Asks a u)))) ⊎ IsFullBelow (Asks a u)
+full-asked : (tops : List Task) (before : List AskedTask) (a : AskedTask) (u : OnceTables) → (2 ^ 64 ≤ length (known tops ((before ++ a ∷ []) ++ asks u))) ⊎ IsFullBelow u →
+    (2 ^ 64 ≤ length (known tops (before ++ asks (Asked a u)))) ⊎ IsFullBelow (Asked a u)
 full-asked tops before a u (inl h) = inl (subst (λ as0. 2 ^ 64 ≤ length (known tops as0)) (append_assoc before (a ∷ []) (asks u)) h)
 full-asked tops before a u (inr h) = inr h
 
 -- a task begun, and then no more
-runs-gained : (recipes : List (Recipe Dependency)) (t : Task) (ps ss : List Task) (v : OnceTables) (old mid new : Kept) →
+runs-gained : (recipes : List (Recipe Dependency)) (t : Task) (ps ss : List Task) (v : OnceTables) (old mid new : Log) →
     executed_in mid ≡ executed_in old ++ executions recipes (t ∷ []) → executed_in new ≡ executed_in mid ++ executions recipes (begun v) →
-    executed_in new ≡ executed_in old ++ executions recipes (begun (Runs t ps ss v Empty))
-runs-gained recipes t ps ss v old mid new h k = joined-begun recipes (Runs t ps [] Empty Empty) v (executed_in old) (executed_in mid) (executed_in new) h k
+    executed_in new ≡ executed_in old ++ executions recipes (begun (Began t ps ss v Empty))
+runs-gained recipes t ps ss v old mid new h k = joined-begun recipes (Began t ps [] Empty Empty) v (executed_in old) (executed_in mid) (executed_in new) h k
     ∙ ap (λ x. executed_in old ++ executions recipes (t ∷ x)) (sym (append-nil (begun v)))
 
 -- a table of its own, from what happened under it
-pub fresh-of : (recipes : List (Recipe Dependency)) (t : Task) (ts : List Task) (bound : ℕ) (calls : List ℕ) (now : State) (old new : Kept) (r : Result (List ℕ) Halt) (u : OnceTables) →
+pub fresh-of : (recipes : List (Recipe Dependency)) (t : Task) (ts : List Task) (bound : ℕ) (calls : List ℕ) (now : State) (old new : Log) (r : Result (List ℕ) Halt) (u : OnceTables) →
     Accounts recipes (t ∷ ts) [] [] bound (opened calls) (t ∷ ts) old new (Ok now) u → (r ≡ Ok now.calls) ⊎ (r ≡ Err Memory) → IsFresh recipes (t ∷ ts) calls old new r u
 fresh-of recipes t ts bound calls now old new r u a h =
     let w : Walked recipes [] (t ∷ ts) (opened calls) now u = a.whole now refl in
@@ -288,7 +288,7 @@ full-tops : (ts : List Task) (u : OnceTables) → (2 ^ 64 ≤ length (known ts (
 full-tops ts u (inl h) = inl (subst (λ m. 2 ^ 64 ≤ m) (length-known_tops ts u) h)
 full-tops ts u (inr h) = inr h
 
-pub fresh-broke : (recipes : List (Recipe Dependency)) (ts : List Task) (bound : ℕ) (s : State) (calls : List ℕ) (old new : Kept) (r : Result (List ℕ) Halt) (e : Halt) (u : OnceTables) →
+pub fresh-broke : (recipes : List (Recipe Dependency)) (ts : List Task) (bound : ℕ) (s : State) (calls : List ℕ) (old new : Log) (r : Result (List ℕ) Halt) (e : Halt) (u : OnceTables) →
     Accounts recipes ts [] [] bound s ts old new (Err e) u → r ≡ Err e → IsFresh recipes ts calls old new r u
 fresh-broke recipes ts bound s calls old new r e u a h = record {
   gained = a.gained;
@@ -298,17 +298,17 @@ fresh-broke recipes ts bound s calls old new r e u a h = record {
 }
 
 -- a task is begun
-run-fits : (recipes : List (Recipe Dependency)) (before : List Asked) (done : List Pair) (t : Task) (ps ss : List Task) (v : OnceTables) →
+run-fits : (recipes : List (Recipe Dependency)) (before : List AskedTask) (done : List Pair) (t : Task) (ps ss : List Task) (v : OnceTables) →
     In (with_priors t ps) before → has same_pair done t.pair ≡ false → AreIn done ps →
     AreNamed recipes (subsequent_dependencies recipes t.pair.recipe) ss ⊎ ((ss ≡ []) × (v ≡ Empty) × (Empty ≡ Empty)) →
     RunFits recipes before done t ps ss v Empty
 run-fits recipes before done t ps ss v i n d m = record { asked_before = i; unbegun = n; priors_begun = d; named = m }
 
 -- the block failed before its subsequents
-pub block-broke : (recipes : List (Recipe Dependency)) (tops : List Task) (before : List Asked) (done : List Pair) (t : Task) (ps : List Task) (calls : List ℕ) (old new : Kept)
+pub block-broke : (recipes : List (Recipe Dependency)) (tops : List Task) (before : List AskedTask) (done : List Pair) (t : Task) (ps : List Task) (calls : List ℕ) (old new : Log)
     (r : Result (List ℕ) Halt) (e : Halt) →
     In (with_priors t ps) before → has same_pair done t.pair ≡ false → AreIn done ps → r ≡ Err e → (e ≡ Exhausted → ⊥) →
-    executed_in new ≡ executed_in old ++ executions recipes (t ∷ []) → Blocks recipes tops before done t ps calls old new r (Runs t ps [] Empty Empty)
+    executed_in new ≡ executed_in old ++ executions recipes (t ∷ []) → Blocks recipes tops before done t ps calls old new r (Began t ps [] Empty Empty)
 block-broke recipes tops before done t ps calls old new r e i n d h k g = record {
   gained = g;
   fits = (run-fits recipes before done t ps [] Empty i n d (inr (refl, refl, refl)), tt, tt);
@@ -318,7 +318,7 @@ block-broke recipes tops before done t ps calls old new r e i n d h k g = record
 }
 
 -- nor was it begun
-pub block-none : (recipes : List (Recipe Dependency)) (tops : List Task) (before : List Asked) (done : List Pair) (t : Task) (ps : List Task) (calls : List ℕ) (old new : Kept)
+pub block-none : (recipes : List (Recipe Dependency)) (tops : List Task) (before : List AskedTask) (done : List Pair) (t : Task) (ps : List Task) (calls : List ℕ) (old new : Log)
     (r : Result (List ℕ) Halt) (e : Halt) →
     r ≡ Err e → (e ≡ Exhausted → ⊥) → executed_in new ≡ executed_in old → Blocks recipes tops before done t ps calls old new r Empty
 block-none recipes tops before done t ps calls old new r e h k g = record {
@@ -330,10 +330,10 @@ block-none recipes tops before done t ps calls old new r e h k g = record {
 }
 
 -- its subsequents ran, or failed
-pub block-ran : (recipes : List (Recipe Dependency)) (tops : List Task) (before : List Asked) (done : List Pair) (t : Task) (ps ss : List Task) (calls : List ℕ)
-    (old mid new : Kept) (r : Result (List ℕ) Halt) (v : OnceTables) →
+pub block-ran : (recipes : List (Recipe Dependency)) (tops : List Task) (before : List AskedTask) (done : List Pair) (t : Task) (ps ss : List Task) (calls : List ℕ)
+    (old mid new : Log) (r : Result (List ℕ) Halt) (v : OnceTables) →
     In (with_priors t ps) before → has same_pair done t.pair ≡ false → AreIn done ps → AreNamed recipes (subsequent_dependencies recipes t.pair.recipe) ss →
-    executed_in mid ≡ executed_in old ++ executions recipes (t ∷ []) → IsFresh recipes ss calls mid new r v → Blocks recipes tops before done t ps calls old new r (Runs t ps ss v Empty)
+    executed_in mid ≡ executed_in old ++ executions recipes (t ∷ []) → IsFresh recipes ss calls mid new r v → Blocks recipes tops before done t ps calls old new r (Began t ps ss v Empty)
 block-ran recipes tops before done t ps ss calls old mid new r v i n d m g f =
     let same : length ps + 0 ≡ length ps = omega arith in
     record {
@@ -355,19 +355,19 @@ block-ran recipes tops before done t ps ss calls old mid new r v i n d m g f =
     }
 
 -- the task whose priors could not be asked for
-pub ask-broke : (recipes : List (Recipe Dependency)) (tops : List Task) (before : List Asked) (done : List Pair) (s : State) (t : Task) (old new : Kept) (r : Result State Halt) (e : Halt) →
+pub ask-broke : (recipes : List (Recipe Dependency)) (tops : List Task) (before : List AskedTask) (done : List Pair) (s : State) (t : Task) (old new : Log) (r : Result State Halt) (e : Halt) →
     Stands tops before done (suc t.pair.recipe) s (t ∷ []) → has same_pair done t.pair ≡ false → r ≡ Err e → (e ≡ Exhausted → ⊥) → executed_in new ≡ executed_in old →
-    Accounts recipes tops before done (suc t.pair.recipe) s (t ∷ []) old new r (Asks (with_priors t []) Empty)
+    Accounts recipes tops before done (suc t.pair.recipe) s (t ∷ []) old new r (Asked (with_priors t []) Empty)
 ask-broke recipes tops before done s t old new r e a n h k g =
     let f : AskFits recipes tops before (with_priors t []) Empty = record {
       from = All-head (λ (q : Task). In q (known tops before)) t [] a.known_all;
       unasked = unasked t.pair done before a.settled n;
       named = inr (refl, refl);
     } in
-    broke recipes tops before done (suc t.pair.recipe) s (t ∷ []) old new r (Asks (with_priors t []) Empty) e h
+    broke recipes tops before done (suc t.pair.recipe) s (t ∷ []) old new r (Asked (with_priors t []) Empty) e h
     (gained-none recipes old new g) (f, tt) (none-below (suc t.pair.recipe)) (λ j. absurd (k j))
 
-ask-fits : (recipes : List (Recipe Dependency)) (tops : List Task) (before : List Asked) (done : List Pair) (s : State) (t : Task) (ps : List Task) (u : OnceTables) →
+ask-fits : (recipes : List (Recipe Dependency)) (tops : List Task) (before : List AskedTask) (done : List Pair) (s : State) (t : Task) (ps : List Task) (u : OnceTables) →
     Stands tops before done (suc t.pair.recipe) s (t ∷ []) → has same_pair done t.pair ≡ false → AreNamed recipes (prior_dependencies recipes t.pair.recipe) ps →
     AskFits recipes tops before (with_priors t ps) u
 ask-fits recipes tops before done s t ps u a n m = record {
@@ -377,20 +377,20 @@ ask-fits recipes tops before done s t ps u a n m = record {
 }
 
 -- its priors failed
-pub priors-broke : (recipes : List (Recipe Dependency)) (tops : List Task) (before : List Asked) (done : List Pair) (s : State) (t : Task) (ps : List Task) (old mid new : Kept)
+pub priors-broke : (recipes : List (Recipe Dependency)) (tops : List Task) (before : List AskedTask) (done : List Pair) (s : State) (t : Task) (ps : List Task) (old mid new : Log)
     (r : Result State Halt) (e : Halt) (u : OnceTables) →
     Stands tops before done (suc t.pair.recipe) s (t ∷ []) → has same_pair done t.pair ≡ false → AreNamed recipes (prior_dependencies recipes t.pair.recipe) ps →
     executed_in mid ≡ executed_in old → r ≡ Err e → Accounts recipes tops (before ++ with_priors t ps ∷ []) done t.pair.recipe (counted s) ps mid new (Err e) u →
-    Accounts recipes tops before done (suc t.pair.recipe) s (t ∷ []) old new r (Asks (with_priors t ps) u)
+    Accounts recipes tops before done (suc t.pair.recipe) s (t ∷ []) old new r (Asked (with_priors t ps) u)
 priors-broke recipes tops before done s t ps old mid new r e u a n m g h c =
-    broke recipes tops before done (suc t.pair.recipe) s (t ∷ []) old new r (Asks (with_priors t ps) u) e h
+    broke recipes tops before done (suc t.pair.recipe) s (t ∷ []) old new r (Asked (with_priors t ps) u) e h
     (c.gained ∙ ap (λ x. x ++ executions recipes (begun u)) g)
     (ask-fits recipes tops before done s t ps u a n m, c.fits)
     (AllLow-more t.pair.recipe (suc t.pair.recipe) (own u) (omega arith) c.low)
     (λ j. full-asked tops before (with_priors t ps) u (c.full (ap (λ x. Err x) j)))
 
 -- the task after its priors and its block, all but what comes of it
-visit-gained : (recipes : List (Recipe Dependency)) (u v : OnceTables) (old mid next new : Kept) → executed_in mid ≡ executed_in old →
+visit-gained : (recipes : List (Recipe Dependency)) (u v : OnceTables) (old mid next new : Log) → executed_in mid ≡ executed_in old →
     executed_in next ≡ executed_in mid ++ executions recipes (begun u) → executed_in new ≡ executed_in next ++ executions recipes (begun v) →
     executed_in new ≡ executed_in old ++ executions recipes (begun (join u v))
 visit-gained recipes u v old mid next new g h k = joined-begun recipes u v (executed_in old) (executed_in next) (executed_in new) (h ∙ ap (λ x. x ++ executions recipes (begun u)) g) k
@@ -403,15 +403,15 @@ table-put table now done pair h k =
     (λ i q. here q i) ∙ ap (has same_pair) k
 
 -- the block failed after the priors
-pub visit-broke : (recipes : List (Recipe Dependency)) (tops : List Task) (before : List Asked) (done : List Pair) (s now : State) (t : Task) (ps : List Task) (calls : List ℕ)
-    (old mid next new : Kept) (r : Result State Halt) (e : Halt) (u v : OnceTables) →
+pub visit-broke : (recipes : List (Recipe Dependency)) (tops : List Task) (before : List AskedTask) (done : List Pair) (s now : State) (t : Task) (ps : List Task) (calls : List ℕ)
+    (old mid next new : Log) (r : Result State Halt) (e : Halt) (u v : OnceTables) →
     Stands tops before done (suc t.pair.recipe) s (t ∷ []) → has same_pair done t.pair ≡ false → AreNamed recipes (prior_dependencies recipes t.pair.recipe) ps →
     executed_in mid ≡ executed_in old → r ≡ Err e → Accounts recipes tops (before ++ with_priors t ps ∷ []) done t.pair.recipe (counted s) ps mid next (Ok now) u →
     Blocks recipes tops ((before ++ with_priors t ps ∷ []) ++ asks u) (done ++ own u) t ps calls next new (Err e) v →
-    Accounts recipes tops before done (suc t.pair.recipe) s (t ∷ []) old new r (Asks (with_priors t ps) (join u v))
+    Accounts recipes tops before done (suc t.pair.recipe) s (t ∷ []) old new r (Asked (with_priors t ps) (join u v))
 visit-broke recipes tops before done s now t ps calls old mid next new r e u v a n m g h c b =
     let w : Walked recipes done ps (counted s) now u = c.whole now refl in
-    broke recipes tops before done (suc t.pair.recipe) s (t ∷ []) old new r (Asks (with_priors t ps) (join u v)) e h
+    broke recipes tops before done (suc t.pair.recipe) s (t ∷ []) old new r (Asked (with_priors t ps) (join u v)) e h
     (visit-gained recipes u v old mid next new g c.gained b.gained)
     (ask-fits recipes tops before done s t ps (join u v) a n m, Fits-join recipes tops u v (before ++ with_priors t ps ∷ []) done w.named w.complete c.fits b.fits)
     (joined-low u v (suc t.pair.recipe) (AllLow-more t.pair.recipe (suc t.pair.recipe) (own u) (omega arith) c.low) b.low)
@@ -420,7 +420,7 @@ visit-broke recipes tops before done s now t ps calls old mid next new r e u v a
 -- the priors and the block succeeded
 visit-walked : (recipes : List (Recipe Dependency)) (done : List Pair) (s now : State) (t : Task) (ps : List Task) (calls : List ℕ) (u v : OnceTables) →
     AreNamed recipes (prior_dependencies recipes t.pair.recipe) ps →
-    Walked recipes done ps (counted s) now u → IsBlock recipes t ps now.calls calls v → Walked recipes done (t ∷ []) s (ran now t calls) (Asks (with_priors t ps) (join u v))
+    Walked recipes done ps (counted s) now u → IsBlock recipes t ps now.calls calls v → Walked recipes done (t ∷ []) s (ran now t calls) (Asked (with_priors t ps) (join u v))
 visit-walked recipes done s now t ps calls u v m w b =
     let with_pair : (done ++ own u) ++ t.pair ∷ [] ≡ done ++ own (join u v) = ap (λ x. (done ++ own u) ++ x) (sym b.own_is) ∙ joined-own u v done in
     let own_here : own u ++ t.pair ∷ [] ≡ own (join u v) = ap (λ x. own u ++ x) (sym b.own_is) ∙ sym (own-join u v) in
@@ -439,22 +439,22 @@ visit-walked recipes done s now t ps calls u v m w b =
       even = omega (arith, asked-join u v, priors-join u v, w.even, b.asked, b.priors);
     }
 
-pub visit-ran : (recipes : List (Recipe Dependency)) (tops : List Task) (before : List Asked) (done : List Pair) (s now : State) (t : Task) (ps : List Task) (calls : List ℕ)
-    (old mid next new : Kept) (r : Result State Halt) (u v : OnceTables) →
+pub visit-ran : (recipes : List (Recipe Dependency)) (tops : List Task) (before : List AskedTask) (done : List Pair) (s now : State) (t : Task) (ps : List Task) (calls : List ℕ)
+    (old mid next new : Log) (r : Result State Halt) (u v : OnceTables) →
     Stands tops before done (suc t.pair.recipe) s (t ∷ []) → has same_pair done t.pair ≡ false → AreNamed recipes (prior_dependencies recipes t.pair.recipe) ps →
     executed_in mid ≡ executed_in old → Accounts recipes tops (before ++ with_priors t ps ∷ []) done t.pair.recipe (counted s) ps mid next (Ok now) u →
     Blocks recipes tops ((before ++ with_priors t ps ∷ []) ++ asks u) (done ++ own u) t ps now.calls next new (Ok calls) v →
     (r ≡ Ok (ran now t calls)) ⊎ (r ≡ Err Memory) →
-    Accounts recipes tops before done (suc t.pair.recipe) s (t ∷ []) old new r (Asks (with_priors t ps) (join u v))
+    Accounts recipes tops before done (suc t.pair.recipe) s (t ∷ []) old new r (Asked (with_priors t ps) (join u v))
 visit-ran recipes tops before done s now t ps calls old mid next new r u v a n m g c b h =
     let w : Walked recipes done ps (counted s) now u = c.whole now refl in
-    let all : Walked recipes done (t ∷ []) s (ran now t calls) (Asks (with_priors t ps) (join u v)) = visit-walked recipes done s now t ps calls u v m w (b.whole calls refl) in
+    let all : Walked recipes done (t ∷ []) s (ran now t calls) (Asked (with_priors t ps) (join u v)) = visit-walked recipes done s now t ps calls u v m w (b.whole calls refl) in
     record {
       gained = visit-gained recipes u v old mid next new g c.gained b.gained;
       fits = (ask-fits recipes tops before done s t ps (join u v) a n m, Fits-join recipes tops u v (before ++ with_priors t ps ∷ []) done w.named w.complete c.fits b.fits);
       low = joined-low u v (suc t.pair.recipe) (AllLow-more t.pair.recipe (suc t.pair.recipe) (own u) (omega arith) c.low) b.low;
       whole = λ end k. elim (h) [
-        | inl j ↦ subst (λ x. Walked recipes done (t ∷ []) s x (Asks (with_priors t ps) (join u v))) (ok-is r (ran now t calls) end j k) all
+        | inl j ↦ subst (λ x. Walked recipes done (t ∷ []) s x (Asked (with_priors t ps) (join u v))) (ok-is r (ran now t calls) end j k) all
         | inr j ↦ absurd (ok-not r end Memory k j)
       ];
       full = λ k. elim (h) [

@@ -1,12 +1,12 @@
--- Steps that count beside steps that do not, under fixed answers.
+-- Interactions that count beside those that do not, under fixed answers.
 use Rattle.std.proofs.Common.{◌≡◌, ◌⊎◌, ℕ, List, [], ◌∷◌, ◌++◌, Option, refl, sym, ◌∙◌, ap, subst, inl, inr, append_assoc, Ok, Err}
 use Rattle.std.specs.Prelude.{Result}
 use Rattle.std.proofs.lemmas.List.{append-nil}
 use Rattle.just_errors.specs.declared.halt.Halt.{Halt}
 use Rattle.just_errors.specs.declared.halt.Halt.TheVariants.{Memory, Exhausted}
 use Rattle.just_run_layers.specs.Host.{Answer}
-use Rattle.just_run_layers.specs.Steps.{Kept, Question, Steps, Give, Fail, Asks, and_then, Gives, Took, path, outcome, IsSteady, after_all, Follows}
-use Rattle.just_run_layers.proofs.StepLemmas.{then-assoc, took-steady}
+use Rattle.just_run_layers.specs.Interactions.{Log, Question, Interaction, Return, Fail, Ask, and_then, CanReturn, HasTrace, trace_under, result_under, ArePromised, logged_all, IsTraceOrPrefix}
+use Rattle.just_run_layers.proofs.InteractionLemmas.{then-assoc, took-steady}
 use Rattle.just_errors.specs.Halts.{without}
 use Rattle.just_execution.specs.Run.{in_turn}
 
@@ -35,37 +35,37 @@ ends-itself (Err e) = refl
 
 module _ (f : Question → Answer) where
   -- the counted steps ask the same and end in the same way, or a counter ended them after a beginning
-  abbrev pub Within : {A B : Type 0} → (A → B → Type 0) → Steps A → Steps B → Type 0
-  Within R s u = IsWithin R (path f s) (outcome f s) (path f u) (outcome f u)
+  abbrev pub Within : {A B : Type 0} → (A → B → Type 0) → Interaction A → Interaction B → Type 0
+  Within R s u = IsWithin R (trace_under f s) (result_under f s) (trace_under f u) (result_under f u)
 
   -- what steps come to under these answers they can come to
-  pub outcome-gives : {A : Type 0} (s : Steps A) (x : A) → outcome f s ≡ Ok x → Gives s x
-  outcome-gives (Give y) x e = cc
+  pub outcome-gives : {A : Type 0} (s : Interaction A) (x : A) → result_under f s ≡ Ok x → CanReturn s x
+  outcome-gives (Return y) x e = cc
   outcome-gives (Fail d) x e = absurd (cc)
-  outcome-gives (Asks q g) x e = (f q, outcome-gives (g (f q)) x e)
+  outcome-gives (Ask q g) x e = (f q, outcome-gives (g (f q)) x e)
 
-  abbrev rest_path : {A B : Type 0} → Result A Halt → (A → Steps B) → List Question
-  rest_path (Ok x) k = path f (k x)
+  abbrev rest_path : {A B : Type 0} → Result A Halt → (A → Interaction B) → List Question
+  rest_path (Ok x) k = trace_under f (k x)
   rest_path (Err e) k = []
 
-  abbrev rest_outcome : {A B : Type 0} → Result A Halt → (A → Steps B) → Result B Halt
-  rest_outcome (Ok x) k = outcome f (k x)
+  abbrev rest_outcome : {A B : Type 0} → Result A Halt → (A → Interaction B) → Result B Halt
+  rest_outcome (Ok x) k = result_under f (k x)
   rest_outcome (Err e) k = Err e
 
-  path-then : {A B : Type 0} (s : Steps A) (k : A → Steps B) → path f (and_then s k) ≡ path f s ++ rest_path (outcome f s) k
-  path-then (Give x) k = refl
+  path-then : {A B : Type 0} (s : Interaction A) (k : A → Interaction B) → trace_under f (and_then s k) ≡ trace_under f s ++ rest_path (result_under f s) k
+  path-then (Return x) k = refl
   path-then (Fail e) k = refl
-  path-then (Asks q g) k = ap (λ t. q ∷ t) (path-then (g (f q)) k)
+  path-then (Ask q g) k = ap (λ t. q ∷ t) (path-then (g (f q)) k)
 
-  outcome-then : {A B : Type 0} (s : Steps A) (k : A → Steps B) → outcome f (and_then s k) ≡ rest_outcome (outcome f s) k
-  outcome-then (Give x) k = refl
+  outcome-then : {A B : Type 0} (s : Interaction A) (k : A → Interaction B) → result_under f (and_then s k) ≡ rest_outcome (result_under f s) k
+  outcome-then (Return x) k = refl
   outcome-then (Fail e) k = refl
-  outcome-then (Asks q g) k = outcome-then (g (f q)) k
+  outcome-then (Ask q g) k = outcome-then (g (f q)) k
 
-  pub within-itself : {A : Type 0} (s : Steps A) → Within (λ (x y : A). x ≡ y) s s
-  within-itself s = inl (refl, ends-itself (outcome f s))
+  pub within-itself : {A : Type 0} (s : Interaction A) → Within (λ (x y : A). x ≡ y) s s
+  within-itself s = inl (refl, ends-itself (result_under f s))
 
-  rest-within : {A B C D : Type 0} (R : A → B → Type 0) (S : C → D → Type 0) (r : Result A Halt) (o : Result B Halt) (k : A → Steps C) (l : B → Steps D) →
+  rest-within : {A B C D : Type 0} (R : A → B → Type 0) (S : C → D → Type 0) (r : Result A Halt) (o : Result B Halt) (k : A → Interaction C) (l : B → Interaction D) →
       Ends R r o → ((x : A) (y : B) → r ≡ Ok x → o ≡ Ok y → R x y → Within S (k x) (l y)) → IsWithin S (rest_path r k) (rest_outcome r k) (rest_path o l) (rest_outcome o l)
   rest-within R S (Ok x) (Ok y) k l e h = h x y refl refl e
   rest-within R S (Ok x) (Err d) k l e h = absurd e
@@ -73,25 +73,25 @@ module _ (f : Question → Answer) where
   rest-within R S (Err d) (Err c) k l e h = inl (refl, e)
 
   -- steps, and after their success others, on both sides
-  pub within-then : {A B C D : Type 0} (R : A → B → Type 0) (S : C → D → Type 0) (s : Steps A) (u : Steps B) (k : A → Steps C) (l : B → Steps D) →
-      Within R s u → ((x : A) (y : B) → outcome f s ≡ Ok x → outcome f u ≡ Ok y → R x y → Within S (k x) (l y)) → Within S (and_then s k) (and_then u l)
+  pub within-then : {A B C D : Type 0} (R : A → B → Type 0) (S : C → D → Type 0) (s : Interaction A) (u : Interaction B) (k : A → Interaction C) (l : B → Interaction D) →
+      Within R s u → ((x : A) (y : B) → result_under f s ≡ Ok x → result_under f u ≡ Ok y → R x y → Within S (k x) (l y)) → Within S (and_then s k) (and_then u l)
   within-then R S s u k l (inl (e, ends)) h =
       let both =
-      before S (path f s) (rest_path (outcome f s) k) (rest_path (outcome f u) l) (rest_outcome (outcome f s) k) (rest_outcome (outcome f u) l) (rest-within R S (outcome f s) (outcome f u) k l ends h) in
-      moved S (path f s ++ rest_path (outcome f s) k) (path f (and_then s k)) (path f s ++ rest_path (outcome f u) l) (path f (and_then u l))
-      (rest_outcome (outcome f s) k) (outcome f (and_then s k)) (rest_outcome (outcome f u) l) (outcome f (and_then u l))
-      (sym (path-then s k)) (sym (outcome-then s k)) (ap (λ t. t ++ rest_path (outcome f u) l) e ∙ sym (path-then u l)) (sym (outcome-then u l)) both
+      before S (trace_under f s) (rest_path (result_under f s) k) (rest_path (result_under f u) l) (rest_outcome (result_under f s) k) (rest_outcome (result_under f u) l) (rest-within R S (result_under f s) (result_under f u) k l ends h) in
+      moved S (trace_under f s ++ rest_path (result_under f s) k) (trace_under f (and_then s k)) (trace_under f s ++ rest_path (result_under f u) l) (trace_under f (and_then u l))
+      (rest_outcome (result_under f s) k) (result_under f (and_then s k)) (rest_outcome (result_under f u) l) (result_under f (and_then u l))
+      (sym (path-then s k)) (sym (outcome-then s k)) (ap (λ t. t ++ rest_path (result_under f u) l) e ∙ sym (path-then u l)) (sym (outcome-then u l)) both
   within-then R S s u k l (inr (e, rest, begun)) h =
-      let more : List Question = rest_path (outcome f u) l in
-      let short : path f (and_then s k) ≡ path f s = path-then s k ∙ ap (λ o. path f s ++ rest_path o k) e ∙ append-nil (path f s) in
+      let more : List Question = rest_path (result_under f u) l in
+      let short : trace_under f (and_then s k) ≡ trace_under f s = path-then s k ∙ ap (λ o. trace_under f s ++ rest_path o k) e ∙ append-nil (trace_under f s) in
       inr (
         outcome-then s k ∙ ap (λ o. rest_outcome o k) e,
         rest ++ more,
-        path-then u l ∙ ap (λ t. t ++ more) begun ∙ append_assoc (path f s) rest more ∙ ap (λ t. t ++ (rest ++ more)) (sym short),
+        path-then u l ∙ ap (λ t. t ++ more) begun ∙ append_assoc (trace_under f s) rest more ∙ ap (λ t. t ++ (rest ++ more)) (sym short),
       )
 
 -- steps in turn, cut in two
-pub in_turn-append : (xs ys : List (Steps (Unit {0}))) → in_turn (xs ++ ys) ≡ and_then (in_turn xs) (λ _. in_turn ys)
+pub in_turn-append : (xs ys : List (Interaction (Unit {0}))) → in_turn (xs ++ ys) ≡ and_then (in_turn xs) (λ _. in_turn ys)
 in_turn-append [] ys = refl
 in_turn-append (x ∷ xs) ys = ap (λ s. and_then x (λ _. s)) (in_turn-append xs ys) ∙ sym (then-assoc x (λ _. in_turn xs) (λ _. in_turn ys))
 
@@ -101,7 +101,7 @@ ends-without (Ok x) (Err e) h = absurd h
 ends-without (Err e) (Ok y) h = absurd h
 ends-without (Err e) (Err d) h = ap (λ x. Err x) h
 
-steady-left : (p : Question → Option Answer) (f : Question → Answer) (xs ys : List Question) → IsSteady p f (xs ++ ys) → IsSteady p f xs
+steady-left : (p : Question → Option Answer) (f : Question → Answer) (xs ys : List Question) → ArePromised p f (xs ++ ys) → ArePromised p f xs
 steady-left p f [] ys h = tt
 steady-left p f (x ∷ xs) ys h = (h.0, steady-left p f xs ys h.1)
 
@@ -110,16 +110,16 @@ halted r (inl h) = inl (ap without h)
 halted r (inr h) = inr (ap without h)
 
 -- what was taken of the counted steps follows the others
-pub took-run : (p : Question → Option Answer) (f : Question → Answer) (s : Steps (List ℕ)) (u : Steps (Unit {0})) (old new : Kept) (r : Result (List ℕ) Halt) →
-    Within f (λ x y. Unit {0}) s u → IsSteady p f (path f u) → Took p s old new r → Follows (path f u) (outcome f u) old new (without r)
+pub took-run : (p : Question → Option Answer) (f : Question → Answer) (s : Interaction (List ℕ)) (u : Interaction (Unit {0})) (old new : Log) (r : Result (List ℕ) Halt) →
+    Within f (λ x y. Unit {0}) s u → ArePromised p f (trace_under f u) → HasTrace p s old new r → IsTraceOrPrefix (trace_under f u) (result_under f u) old new (without r)
 took-run p f s u old new r (inl (same, ends)) steady t =
-    let end : without (outcome f s) ≡ outcome f u = ends-without (outcome f s) (outcome f u) ends in
-    elim (took-steady p f s old new r (subst (IsSteady p f) (sym same) steady) t) [
-      | inl (n, e) ↦ inl (n ∙ ap (λ qs. after_all qs old) same, ap without e ∙ end)
+    let end : without (result_under f s) ≡ result_under f u = ends-without (result_under f s) (result_under f u) ends in
+    elim (took-steady p f s old new r (subst (ArePromised p f) (sym same) steady) t) [
+      | inl (n, e) ↦ inl (n ∙ ap (λ qs. logged_all qs old) same, ap without e ∙ end)
       | inr (h, (xs, ys, e, n)) ↦ inr (halted r h, (xs, ys, sym same ∙ e, n))
     ]
 took-run p f s u old new r (inr (out, rest, begun)) steady t =
-    elim (took-steady p f s old new r (steady-left p f (path f s) rest (subst (IsSteady p f) begun steady)) t) [
-      | inl (n, e) ↦ inr (inr (ap without (e ∙ out)), (path f s, rest, begun, n))
+    elim (took-steady p f s old new r (steady-left p f (trace_under f s) rest (subst (ArePromised p f) begun steady)) t) [
+      | inl (n, e) ↦ inr (inr (ap without (e ∙ out)), (trace_under f s, rest, begun, n))
       | inr (h, (xs, ys, e, n)) ↦ inr (halted r h, (xs, ys ++ rest, begun ∙ ap (λ qs. qs ++ rest) e ∙ append_assoc xs ys rest, n))
     ]

@@ -5,17 +5,17 @@ use Rattle.std.proofs.lemmas.Bool.{cases_Bool, cond-true, cond-false}
 use Rattle.just_errors.specs.declared.halt.Halt.{Halt}
 use Rattle.just_run_layers.specs.Host.{Answer}
 use Rattle.just_run_layers.specs.declared.held.Held.{Held}
-use Rattle.just_run_layers.specs.Steps.{Question, Steps, and_then, Gives, outcome}
-use Rattle.just_run_layers.proofs.StepLemmas.{then-each}
+use Rattle.just_run_layers.specs.Interactions.{Question, Interaction, and_then, CanReturn, result_under}
+use Rattle.just_run_layers.proofs.InteractionLemmas.{then-each}
 use Rattle.just_execution.specs.declared.pair.Pair.{Pair}
-use Rattle.just_execution.specs.Expansion.{Part, Ask, Block, same_part, part_key, expansion}
+use Rattle.just_execution.specs.Expansion.{Part, Prepare, Block, same_part, part_key, expansion}
 use Rattle.just_execution.specs.Firsts.{has, without_key, firsts_by}
 use Rattle.just_execution.specs.Lower.{IsLower}
 use Rattle.just_execution.specs.declared.task.Task.{Task}
 use Rattle.just_execution.specs.Pairs.{same_pair, key, task, AllBelow}
-use Rattle.just_execution.specs.Run.{tasks_in, priors_in, priors_by, subsequents_after, subsequents_by, block_run, part_steps, in_turn, parts, run_steps, Each, IsEvenPart, IsEven}
+use Rattle.just_execution.specs.Run.{tasks_in, priors_in, priors_by, subsequents_after, subsequents_by, block_run, part_steps, in_turn, parts, run_steps, Each, PartIgnoresFlag, PriorsIgnoreFlag}
 use Rattle.just_execution.proofs.Walks.{blocks, walk, walks}
-use Rattle.just_execution.specs.Walking.{Leaves, Prepared, fresh_steps, walk_steps}
+use Rattle.just_execution.specs.Walking.{TaskInteractions, Prepared, fresh_steps, walk_steps}
 use Rattle.just_execution.proofs.Keeps.{Exact}
 use Rattle.just_execution.proofs.Keyed.{walks-firsts_by}
 use Rattle.just_execution.proofs.Pairs.{pair-exact}
@@ -56,7 +56,7 @@ module _ {A K : Type 0} (same : K → K → Bool) (e : Exact same) (name : A →
 -- two ways to the priors that agree wherever a pair is asked give one expansion and one walk
 module _ {P K : Type 0} (same : K → K → Bool) (name : P → K) (g h : P → List P) where
   abbrev Alike : Part K → Type 0
-  Alike (Ask k) = (p : P) → name p ≡ k → g p ≡ h p
+  Alike (Prepare k) = (p : P) → name p ≡ k → g p ≡ h p
   Alike (Block k) = Unit {0}
 
   abbrev Agree : List (Part P) → Type 0
@@ -74,7 +74,7 @@ module _ {P K : Type 0} (same : K → K → Bool) (name : P → K) (g h : P → 
   expansion-agree (suc n) p a =
       let l : flat_map (expansion g n) (g p) ≡ flat_map (expansion h n) (g p) =
       list-agree n (expansion-agree n) (g p) (Each-left (λ x. Alike (part_key name x)) (flat_map (expansion g n) (g p)) (Block p ∷ []) a.1) in
-      ap (λ t. Ask p ∷ (t ++ Block p ∷ [])) (l ∙ ap (flat_map (expansion h n)) (a.0 p refl))
+      ap (λ t. Prepare p ∷ (t ++ Block p ∷ [])) (l ∙ ap (flat_map (expansion h n)) (a.0 p refl))
 
   pub expansions-agree : (n : ℕ) (ps : List P) → Agree (flat_map (expansion g n) ps) → flat_map (expansion g n) ps ≡ flat_map (expansion h n) ps
   expansions-agree n ps a = list-agree n (expansion-agree n) ps a
@@ -92,38 +92,38 @@ module _ {P K : Type 0} (same : K → K → Bool) (name : P → K) (g h : P → 
   walk-agree (suc n) table p a =
       let l : walks name (walk same name g n) table (g p) ≡ walks name (walk same name h n) table (g p) =
       walk-list n (walk-agree n) table (g p) (Each-left (λ x. Alike (part_key name x)) (flat_map (expansion g n) (g p)) (Block p ∷ []) a.1) in
-      ap (λ t. cond (has same table (name p)) [] (Ask p ∷ (t ++ Block p ∷ []))) (l ∙ ap (walks name (walk same name h n) table) (a.0 p refl))
+      ap (λ t. cond (has same table (name p)) [] (Prepare p ∷ (t ++ Block p ∷ []))) (l ∙ ap (walks name (walk same name h n) table) (a.0 p refl))
 
   pub walks-agree : (n : ℕ) (table : List K) (ps : List P) → Agree (flat_map (expansion g n) ps) → walks name (walk same name g n) table ps ≡ walks name (walk same name h n) table ps
   walks-agree n table ps a = walk-list n (walk-agree n) table ps a
 
-module _ (leaves : Leaves) (lower : IsLower leaves) (f : Question → Answer) where
-  -- what the leaves give under these answers, and nothing where they fail
-  low-in : (k : ℕ) (s : Steps (List Task)) → ((ts : List Task) → Gives s ts → AreLow k ts) → (r : Result (List Task) Halt) → outcome f s ≡ r → AreLow k (tasks_in r)
+module _ (of_task : TaskInteractions) (lower : IsLower of_task) (f : Question → Answer) where
+  -- what is given of tasks under these answers, and nothing where they fail
+  low-in : (k : ℕ) (s : Interaction (List Task)) → ((ts : List Task) → CanReturn s ts → AreLow k ts) → (r : Result (List Task) Halt) → result_under f s ≡ r → AreLow k (tasks_in r)
   low-in k s h (Ok ts) e = h ts (outcome-gives f s ts e)
   low-in k s h (Err d) e = tt
 
-  low-asked : (t : Task) (r : Result Prepared Halt) → outcome f (leaves.ask t) ≡ r → AreLow t.pair.recipe (priors_in r)
-  low-asked t (Ok a) e = priors-low leaves lower t a (outcome-gives f (leaves.ask t) a e)
+  low-asked : (t : Task) (r : Result Prepared Halt) → result_under f (of_task.ask t) ≡ r → AreLow t.pair.recipe (priors_in r)
+  low-asked t (Ok a) e = priors-low of_task lower t a (outcome-gives f (of_task.ask t) a e)
   low-asked t (Err d) e = tt
 
-  priors-lower : (t : Task) → AreLow t.pair.recipe (priors_by leaves f t)
-  priors-lower t = low-asked t (outcome f (leaves.ask t)) refl
+  priors-lower : (t : Task) → AreLow t.pair.recipe (priors_by of_task f t)
+  priors-lower t = low-asked t (result_under f (of_task.ask t)) refl
 
-  low-after : (t : Task) (r : Result Prepared Halt) → AreLow t.pair.recipe (subsequents_after leaves f t r)
-  low-after t (Ok a) = low-in t.pair.recipe (leaves.follow t a.held) (subsequents-low leaves lower t a.held) (outcome f (leaves.follow t a.held)) refl
+  low-after : (t : Task) (r : Result Prepared Halt) → AreLow t.pair.recipe (subsequents_after of_task f t r)
+  low-after t (Ok a) = low-in t.pair.recipe (of_task.follow t a.held) (subsequents-low of_task lower t a.held) (result_under f (of_task.follow t a.held)) refl
   low-after t (Err d) = tt
 
-  subsequents-lower : (t : Task) → AreLow t.pair.recipe (subsequents_by leaves f t)
-  subsequents-lower t = low-after t (outcome f (leaves.ask t))
+  subsequents-lower : (t : Task) → AreLow t.pair.recipe (subsequents_by of_task f t)
+  subsequents-lower t = low-after t (result_under f (of_task.ask t))
 
   -- the parts of an expansion are of low tasks
   abbrev IsLow : ℕ → Part Task → Type 0
-  IsLow k (Ask t) = Unit {0}
+  IsLow k (Prepare t) = Unit {0}
   IsLow k (Block t) = t.pair.recipe < k
 
   abbrev E : ℕ → Task → List (Part Task)
-  E n t = expansion (priors_by leaves f) n t
+  E n t = expansion (priors_by of_task f) n t
 
   low-flat : (n k : ℕ) → ((t : Task) → t.pair.recipe < k → Each (IsLow k) (E n t)) → (ts : List Task) → AreLow k ts → Each (IsLow k) (flat_map (E n) ts)
   low-flat n k ih [] b = tt
@@ -133,63 +133,63 @@ module _ (leaves : Leaves) (lower : IsLower leaves) (f : Question → Answer) wh
   low-expansion zero k t l = tt
   low-expansion (suc n) k t l = (
     tt,
-    Each-append (IsLow k) (flat_map (E n) (priors_by leaves f t)) (Block t ∷ [])
-        (low-flat n k (low-expansion n k) (priors_by leaves f t) (below-more t.pair.recipe k (priors_by leaves f t) (omega arith) (priors-lower t))) (l, tt),
+    Each-append (IsLow k) (flat_map (E n) (priors_by of_task f t)) (Block t ∷ [])
+        (low-flat n k (low-expansion n k) (priors_by of_task f t) (below-more t.pair.recipe k (priors_by of_task f t) (omega arith) (priors-lower t))) (l, tt),
   )
 
-  low-parts : (n k : ℕ) (ts : List Task) → AreLow k ts → Each (IsLow k) (parts leaves f n ts)
+  low-parts : (n k : ℕ) (ts : List Task) → AreLow k ts → Each (IsLow k) (parts of_task f n ts)
   low-parts n k ts b = Each-firsts (same_part same_pair) (part-exact same_pair pair-exact) (part_key key) (IsLow k) (flat_map (E n) ts) (low-flat n k (low-expansion n k) ts b)
 
   -- whether a task runs as a dependency does not matter
   abbrev plain : Pair → List Task
-  plain p = priors_by leaves f (task false p)
+  plain p = priors_by of_task f (task false p)
 
-  flag-either : (p : Pair) → priors_by leaves f (task true p) ≡ plain p → (b : Bool) → priors_by leaves f (task b p) ≡ plain p
+  flag-either : (p : Pair) → priors_by of_task f (task true p) ≡ plain p → (b : Bool) → priors_by of_task f (task b p) ≡ plain p
   flag-either p h true = h
   flag-either p h false = refl
 
-  even-one : (t : Task) → priors_by leaves f (task true t.pair) ≡ plain t.pair → (s : Task) → key s ≡ t.pair → priors_by leaves f s ≡ plain (key s)
-  even-one t h s e = flag-either s.pair (subst (λ p. priors_by leaves f (task true p) ≡ plain p) (sym e) h) s.dependency
+  even-one : (t : Task) → priors_by of_task f (task true t.pair) ≡ plain t.pair → (s : Task) → key s ≡ t.pair → priors_by of_task f s ≡ plain (key s)
+  even-one t h s e = flag-either s.pair (subst (λ p. priors_by of_task f (task true p) ≡ plain p) (sym e) h) s.dependency
 
-  parts-even : (run : List Task → Type 0) (xs : List (Part Task)) → Each (IsEvenPart leaves f run) xs → Agree same_pair key (priors_by leaves f) (λ t. plain (key t)) xs
+  parts-even : (run : List Task → Type 0) (xs : List (Part Task)) → Each (PartIgnoresFlag of_task f run) xs → Agree same_pair key (priors_by of_task f) (λ t. plain (key t)) xs
   parts-even run [] s = tt
-  parts-even run (Ask t ∷ xs) s = ((λ u e. even-one t s.0 u e), parts-even run xs s.1)
+  parts-even run (Prepare t ∷ xs) s = ((λ u e. even-one t s.0 u e), parts-even run xs s.1)
   parts-even run (Block t ∷ xs) s = (tt, parts-even run xs s.1)
 
   -- so the walk is the parts of the run
-  pub walk-parts : (run : List Task → Type 0) (n : ℕ) (ts : List Task) → AreLow n ts → Each (IsEvenPart leaves f run) (parts leaves f n ts) →
-      walks key (walk same_pair key (priors_by leaves f) n) [] ts ≡ parts leaves f n ts
+  pub walk-parts : (run : List Task → Type 0) (n : ℕ) (ts : List Task) → AreLow n ts → Each (PartIgnoresFlag of_task f run) (parts of_task f n ts) →
+      walks key (walk same_pair key (priors_by of_task f) n) [] ts ≡ parts of_task f n ts
   walk-parts run n ts b s =
       let G : Task → List Task = λ t. plain (key t) in
-      let alike : Agree same_pair key (priors_by leaves f) G (flat_map (E n) ts) =
-      Each-all (same_part same_pair) (part-exact same_pair pair-exact) (part_key key) (Alike same_pair key (priors_by leaves f) G) (flat_map (E n) ts) (parts-even run (parts leaves f n ts) s) in
-      walks-agree same_pair key (priors_by leaves f) G n [] ts alike
+      let alike : Agree same_pair key (priors_by of_task f) G (flat_map (E n) ts) =
+      Each-all (same_part same_pair) (part-exact same_pair pair-exact) (part_key key) (Alike same_pair key (priors_by of_task f) G) (flat_map (E n) ts) (parts-even run (parts of_task f n ts) s) in
+      walks-agree same_pair key (priors_by of_task f) G n [] ts alike
       ∙ walks-firsts_by same_pair pair-exact key plain rank (λ p. priors-lower (task false p)) n ts b
-      ∙ ap (firsts_by (same_part same_pair) (part_key key)) (sym (expansions-agree same_pair key (priors_by leaves f) G n ts alike))
+      ∙ ap (firsts_by (same_part same_pair) (part_key key)) (sym (expansions-agree same_pair key (priors_by of_task f) G n ts alike))
 
   abbrev Runs : ℕ → Type 0
-  Runs n = (ts : List Task) (calls : List ℕ) → AreLow n ts → IsEven leaves f n ts → Within f (λ x y. Unit {0}) (fresh_steps (walk_steps leaves n) ts calls) (run_steps leaves f n ts)
+  Runs n = (ts : List Task) (calls : List ℕ) → AreLow n ts → PriorsIgnoreFlag of_task f n ts → Within f (λ x y. Unit {0}) (fresh_steps (walk_steps of_task n) ts calls) (run_steps of_task f n ts)
 
-  parts-fresh : (n : ℕ) → Runs n → (xs : List (Part Task)) → Each (IsLow (suc n)) xs → Each (IsEvenPart leaves f (IsEven leaves f n)) xs → Each (IsFresh leaves lower f n (run_steps leaves f n)) xs
+  parts-fresh : (n : ℕ) → Runs n → (xs : List (Part Task)) → Each (IsLow (suc n)) xs → Each (PartIgnoresFlag of_task f (PriorsIgnoreFlag of_task f n)) xs → Each (IsFresh of_task lower f n (run_steps of_task f n)) xs
   parts-fresh n ih [] l s = tt
-  parts-fresh n ih (Ask t ∷ xs) l s = (tt, parts-fresh n ih xs l.1 s.1)
+  parts-fresh n ih (Prepare t ∷ xs) l s = (tt, parts-fresh n ih xs l.1 s.1)
   parts-fresh n ih (Block t ∷ xs) l s =
       let here : t.pair.recipe < suc n = l.0 in
       let place : t.pair.recipe ≤ n = omega arith in
-      let low : AreLow n (subsequents_by leaves f t) = below-more t.pair.recipe n (subsequents_by leaves f t) place (subsequents-lower t) in
-      ((place, (λ calls. ih (subsequents_by leaves f t) calls low s.0)), parts-fresh n ih xs l.1 s.1)
+      let low : AreLow n (subsequents_by of_task f t) = below-more t.pair.recipe n (subsequents_by of_task f t) place (subsequents-lower t) in
+      ((place, (λ calls. ih (subsequents_by of_task f t) calls low s.0)), parts-fresh n ih xs l.1 s.1)
 
   runs : (n : ℕ) → Runs n
   runs zero [] calls b s = inl (refl, tt)
   runs zero (t ∷ ts) calls b s = let h = b.0 in absurd (omega arith)
   runs (suc n) ts calls b s =
-      let run : List Task → Steps (Unit {0}) = run_steps leaves f n in
-      let S : List (Part Task) = parts leaves f (suc n) ts in
-      let ws : List (Part Task) = walks key (walk same_pair key (priors_by leaves f) (suc n)) [] ts in
-      let same : ws ≡ S = walk-parts (IsEven leaves f n) (suc n) ts b s in
-      let fresh : Each (IsFresh leaves lower f n run) S = parts-fresh n (runs n) S (low-parts (suc n) (suc n) ts b) s in
-      subst (λ xs. Within f (λ x y. Unit {0}) (fresh_steps (walk_steps leaves (suc n)) ts calls) (in_turn (map (part_steps leaves f run) xs))) same
-      (fresh-walked leaves lower f n run ts calls b (subst (Each (IsFresh leaves lower f n run)) (sym same) fresh))
+      let run : List Task → Interaction (Unit {0}) = run_steps of_task f n in
+      let S : List (Part Task) = parts of_task f (suc n) ts in
+      let ws : List (Part Task) = walks key (walk same_pair key (priors_by of_task f) (suc n)) [] ts in
+      let same : ws ≡ S = walk-parts (PriorsIgnoreFlag of_task f n) (suc n) ts b s in
+      let fresh : Each (IsFresh of_task lower f n run) S = parts-fresh n (runs n) S (low-parts (suc n) (suc n) ts b) s in
+      subst (λ xs. Within f (λ x y. Unit {0}) (fresh_steps (walk_steps of_task (suc n)) ts calls) (in_turn (map (part_steps of_task f run) xs))) same
+      (fresh-walked of_task lower f n run ts calls b (subst (Each (IsFresh of_task lower f n run)) (sym same) fresh))
 
   -- more room changes nothing in an expansion
   flat-more : (n m k : ℕ) → ((t : Task) → t.pair.recipe < k → E n t ≡ E m t) → (ts : List Task) → AreLow k ts → flat_map (E n) ts ≡ flat_map (E m) ts
@@ -200,51 +200,51 @@ module _ (leaves : Leaves) (lower : IsLower leaves) (f : Question → Answer) wh
   expansion-more zero m t a b = absurd (omega arith)
   expansion-more (suc n) zero t a b = absurd (omega arith)
   expansion-more (suc n) (suc m) t a b =
-      ap (λ x. Ask t ∷ (x ++ Block t ∷ []))
-      (flat-more n m t.pair.recipe (λ r l. expansion-more n m r (omega (arith, a, l)) (omega (arith, b, l))) (priors_by leaves f t) (priors-lower t))
+      ap (λ x. Prepare t ∷ (x ++ Block t ∷ []))
+      (flat-more n m t.pair.recipe (λ r l. expansion-more n m r (omega (arith, a, l)) (omega (arith, b, l))) (priors_by of_task f t) (priors-lower t))
 
   both-more : (n m : ℕ) (ts : List Task) → AreLow n ts → AreLow m ts → flat_map (E n) ts ≡ flat_map (E m) ts
   both-more n m [] a b = refl
   both-more n m (t ∷ ts) a b = ap (λ x. x ++ flat_map (E n) ts) (expansion-more n m t a.0 b.0) ∙ ap (λ x. E m t ++ x) (both-more n m ts a.1 b.1)
 
   -- blocks whose subsequents run alike
-  block-more : (N M : List Task → Steps (Unit {0})) (t : Task) → ((h : Held) (ts : List Task) → Gives (leaves.follow t h) ts → N ts ≡ M ts) → (r : Result Prepared Halt) →
-      block_run leaves N t r ≡ block_run leaves M t r
-  block-more N M t same (Ok a) = ap (λ x. and_then (leaves.execute t a.held) (λ _. x)) (then-each (leaves.follow t a.held) N M (same a.held))
+  block-more : (N M : List Task → Interaction (Unit {0})) (t : Task) → ((h : Held) (ts : List Task) → CanReturn (of_task.follow t h) ts → N ts ≡ M ts) → (r : Result Prepared Halt) →
+      block_run of_task N t r ≡ block_run of_task M t r
+  block-more N M t same (Ok a) = ap (λ x. and_then (of_task.execute t a.held) (λ _. x)) (then-each (of_task.follow t a.held) N M (same a.held))
   block-more N M t same (Err d) = refl
 
-  turn-more : (n m : ℕ) → ((ts : List Task) → AreLow n ts → AreLow m ts → run_steps leaves f n ts ≡ run_steps leaves f m ts) → (xs : List (Part Task)) → Each (IsLow (suc n)) xs →
+  turn-more : (n m : ℕ) → ((ts : List Task) → AreLow n ts → AreLow m ts → run_steps of_task f n ts ≡ run_steps of_task f m ts) → (xs : List (Part Task)) → Each (IsLow (suc n)) xs →
       Each (IsLow (suc m)) xs →
-      in_turn (map (part_steps leaves f (run_steps leaves f n)) xs) ≡ in_turn (map (part_steps leaves f (run_steps leaves f m)) xs)
+      in_turn (map (part_steps of_task f (run_steps of_task f n)) xs) ≡ in_turn (map (part_steps of_task f (run_steps of_task f m)) xs)
   turn-more n m ih [] a b = refl
-  turn-more n m ih (Ask t ∷ xs) a b = ap (λ s. and_then (part_steps leaves f (run_steps leaves f n) (Ask t)) (λ _. s)) (turn-more n m ih xs a.1 b.1)
+  turn-more n m ih (Prepare t ∷ xs) a b = ap (λ s. and_then (part_steps of_task f (run_steps of_task f n) (Prepare t)) (λ _. s)) (turn-more n m ih xs a.1 b.1)
   turn-more n m ih (Block t ∷ xs) a b =
       let in_n : t.pair.recipe < suc n = a.0 in
       let in_m : t.pair.recipe < suc m = b.0 in
-      let N : List Task → Steps (Unit {0}) = run_steps leaves f n in
-      let M : List Task → Steps (Unit {0}) = run_steps leaves f m in
-      let below : (h : Held) (ts : List Task) → Gives (leaves.follow t h) ts → N ts ≡ M ts =
+      let N : List Task → Interaction (Unit {0}) = run_steps of_task f n in
+      let M : List Task → Interaction (Unit {0}) = run_steps of_task f m in
+      let below : (h : Held) (ts : List Task) → CanReturn (of_task.follow t h) ts → N ts ≡ M ts =
       λ h ts g.
-      let low : AreLow t.pair.recipe ts = subsequents-low leaves lower t h ts g in
+      let low : AreLow t.pair.recipe ts = subsequents-low of_task lower t h ts g in
       ih ts (below-more t.pair.recipe n ts (omega arith) low) (below-more t.pair.recipe m ts (omega arith) low) in
-      ap (λ x. and_then x (λ _. in_turn (map (part_steps leaves f N) xs))) (block-more N M t below (outcome f (leaves.ask t)))
-      ∙ ap (λ s. and_then (part_steps leaves f M (Block t)) (λ _. s)) (turn-more n m ih xs a.1 b.1)
+      ap (λ x. and_then x (λ _. in_turn (map (part_steps of_task f N) xs))) (block-more N M t below (result_under f (of_task.ask t)))
+      ∙ ap (λ s. and_then (part_steps of_task f M (Block t)) (λ _. s)) (turn-more n m ih xs a.1 b.1)
 
-  runs-more : (n m : ℕ) (ts : List Task) → AreLow n ts → AreLow m ts → run_steps leaves f n ts ≡ run_steps leaves f m ts
+  runs-more : (n m : ℕ) (ts : List Task) → AreLow n ts → AreLow m ts → run_steps of_task f n ts ≡ run_steps of_task f m ts
   runs-more zero zero ts a b = refl
   runs-more zero (suc m) [] a b = refl
   runs-more zero (suc m) (t ∷ ts) a b = let h = a.0 in absurd (omega arith)
   runs-more (suc n) zero [] a b = refl
   runs-more (suc n) zero (t ∷ ts) a b = let h = b.0 in absurd (omega arith)
   runs-more (suc n) (suc m) ts a b =
-      turn-more n m (runs-more n m) (parts leaves f (suc n) ts) (low-parts (suc n) (suc n) ts a) (low-parts (suc n) (suc m) ts b)
-      ∙ ap (λ xs. in_turn (map (part_steps leaves f (run_steps leaves f m)) (firsts_by (same_part same_pair) (part_key key) xs))) (both-more (suc n) (suc m) ts a b)
+      turn-more n m (runs-more n m) (parts of_task f (suc n) ts) (low-parts (suc n) (suc n) ts a) (low-parts (suc n) (suc m) ts b)
+      ∙ ap (λ xs. in_turn (map (part_steps of_task f (run_steps of_task f m)) (firsts_by (same_part same_pair) (part_key key) xs))) (both-more (suc n) (suc m) ts a b)
 
 -- the walk of a fresh table is within the expected run
-pub fresh-run : (leaves : Leaves) → IsLower leaves → (f : Question → Answer) (n : ℕ) (ts : List Task) (calls : List ℕ) → AllBelow n ts → IsEven leaves f n ts →
-    Within f (λ x y. Unit {0}) (fresh_steps (walk_steps leaves n) ts calls) (run_steps leaves f n ts)
-fresh-run leaves lower f n ts calls b s = runs leaves lower f n ts calls (below-all n ts b) s
+pub fresh-run : (of_task : TaskInteractions) → IsLower of_task → (f : Question → Answer) (n : ℕ) (ts : List Task) (calls : List ℕ) → AllBelow n ts → PriorsIgnoreFlag of_task f n ts →
+    Within f (λ x y. Unit {0}) (fresh_steps (walk_steps of_task n) ts calls) (run_steps of_task f n ts)
+fresh-run of_task lower f n ts calls b s = runs of_task lower f n ts calls (below-all n ts b) s
 
 -- more room changes nothing in the expected run
-pub more-run : (leaves : Leaves) → IsLower leaves → (f : Question → Answer) (n m : ℕ) (ts : List Task) → AllBelow n ts → AllBelow m ts → run_steps leaves f n ts ≡ run_steps leaves f m ts
-more-run leaves lower f n m ts a b = runs-more leaves lower f n m ts (below-all n ts a) (below-all m ts b)
+pub more-run : (of_task : TaskInteractions) → IsLower of_task → (f : Question → Answer) (n m : ℕ) (ts : List Task) → AllBelow n ts → AllBelow m ts → run_steps of_task f n ts ≡ run_steps of_task f m ts
+more-run of_task lower f n m ts a b = runs-more of_task lower f n m ts (below-all n ts a) (below-all m ts b)

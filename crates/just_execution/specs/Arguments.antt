@@ -15,7 +15,7 @@ use Rattle.just_recipe.specs.declared.recipe.Recipe.{Recipe}
 use Rattle.just_run_layers.specs.Covering.{IsCovered}
 use Rattle.just_run_layers.specs.Evaluation.{Surroundings, Value}
 use Rattle.just_run_layers.specs.Host.{Answer, Valued, Refused}
-use Rattle.just_run_layers.specs.Steps.{Steps, Give, Fail, Asks, ToEvaluator, and_then}
+use Rattle.just_run_layers.specs.Interactions.{Interaction, Return, Fail, Ask, ToEvaluator, and_then}
 use Rattle.just_execution.specs.Pairs.{task}
 use Rattle.just_execution.specs.declared.task.Task.{Task}
 use Rattle.just_recipes.specs.Places.{place_of}
@@ -25,35 +25,35 @@ abbrev pub unevaluated : Text → Halt
 unevaluated message = Failed (Evaluate (record { message = message }))
 
 -- steps for each of some things in turn, and all that they come to in one list
-abbrev pub gathered : {A B : Type 0} → (A → Steps (List B)) → List A → Steps (List B)
-gathered step [] = Give []
-gathered step (x ∷ xs) = and_then (step x) (λ ys. and_then (gathered step xs) (λ more. Give (ys ++ more)))
+abbrev pub gathered : {A B : Type 0} → (A → Interaction (List B)) → List A → Interaction (List B)
+gathered step [] = Return []
+gathered step (x ∷ xs) = and_then (step x) (λ ys. and_then (gathered step xs) (λ more. Return (ys ++ more)))
 
 -- the value of an expression
-abbrev pub valued_answered : Answer → Steps (List Text)
-valued_answered (Valued value) = Give value
+abbrev pub valued_answered : Answer → Interaction (List Text)
+valued_answered (Valued value) = Return value
 valued_answered (Refused message) = Fail (unevaluated message)
 valued_answered _ = Fail Memory
 
-abbrev pub value_steps : Surroundings → Expression → Steps (List Text)
-value_steps s e = Asks (ToEvaluator (Value s e)) valued_answered
+abbrev pub value_steps : Surroundings → Expression → Interaction (List Text)
+value_steps s e = Ask (ToEvaluator (Value s e)) valued_answered
 
 -- the texts of a value that is an argument: all of them where values are lists, and else one, with a blank between them
 abbrev pub texts_given : Bool → List Text → List Text
 texts_given lists value = cond lists value (joined (codes " ") value ∷ [])
 
-abbrev pub argument_steps : Surroundings → DependencyArgument → Steps (List Text)
-argument_steps s a = and_then (value_steps s a.expression) (λ value. Give (texts_given s.context.settings.lists value))
+abbrev pub argument_steps : Surroundings → DependencyArgument → Interaction (List Text)
+argument_steps s a = and_then (value_steps s a.expression) (λ value. Return (texts_given s.context.settings.lists value))
 
 -- the texts of a group: those of its arguments, one after another
-abbrev pub texts_steps : Surroundings → List DependencyArgument → Steps (List Text)
+abbrev pub texts_steps : Surroundings → List DependencyArgument → Interaction (List Text)
 texts_steps s arguments = gathered (argument_steps s) arguments
 
-abbrev pub group_steps : Surroundings → List DependencyArgument → Steps (List (List Text))
-group_steps s arguments = and_then (texts_steps s arguments) (λ texts. Give (texts ∷ []))
+abbrev pub group_steps : Surroundings → List DependencyArgument → Interaction (List (List Text))
+group_steps s arguments = and_then (texts_steps s arguments) (λ texts. Return (texts ∷ []))
 
 -- the groups of a dependency, one for each parameter
-abbrev pub groups_steps : Surroundings → List (List DependencyArgument) → Steps (List (List Text))
+abbrev pub groups_steps : Surroundings → List (List DependencyArgument) → Interaction (List (List Text))
 groups_steps s given = gathered (group_steps s) given
 
 -- groups with one text alone at a place
@@ -73,22 +73,22 @@ task_at place groups = task true (record { recipe = place; groups = groups })
 abbrev pub tasks_with : List (Recipe Dependency) → Dependency → List (List Text) → List Task
 tasks_with recipes d groups = map (task_at (place_of recipes d.recipe.0)) (spread (position has_star d.arguments) groups)
 
-abbrev pub dependency_steps : List (Recipe Dependency) → Surroundings → Dependency → Steps (List Task)
-dependency_steps recipes s d = and_then (groups_steps s d.arguments) (λ groups. Give (tasks_with recipes d groups))
+abbrev pub dependency_steps : List (Recipe Dependency) → Surroundings → Dependency → Interaction (List Task)
+dependency_steps recipes s d = and_then (groups_steps s d.arguments) (λ groups. Return (tasks_with recipes d groups))
 
 -- the tasks of dependencies, one after another
-abbrev pub dependencies_steps : List (Recipe Dependency) → Surroundings → List Dependency → Steps (List Task)
+abbrev pub dependencies_steps : List (Recipe Dependency) → Surroundings → List Dependency → Interaction (List Task)
 dependencies_steps recipes s ds = gathered (dependency_steps recipes s) ds
 
 -- for the private functions: what the arguments of a group, and those of a dependency, read is bound in a scope
-abbrev pub IsReadable : Known → Scope → DependencyArgument → Type 0
-IsReadable m scope a = IsCovered m scope a.expression
+abbrev pub IsReadableArgument : Known → Scope → DependencyArgument → Type 0
+IsReadableArgument m scope a = IsCovered m scope a.expression
 
-abbrev pub AreReadable : Known → Scope → List DependencyArgument → Type 0
-AreReadable m scope arguments = All (IsReadable m scope) arguments
+abbrev pub AreReadableArguments : Known → Scope → List DependencyArgument → Type 0
+AreReadableArguments m scope arguments = All (IsReadableArgument m scope) arguments
 
-abbrev pub AreGiven : Known → Scope → List (List DependencyArgument) → Type 0
-AreGiven m scope groups = All (AreReadable m scope) groups
+abbrev pub AreReadableGroups : Known → Scope → List (List DependencyArgument) → Type 0
+AreReadableGroups m scope groups = All (AreReadableArguments m scope) groups
 
 abbrev pub IsGivenIn : Known → Scope → Dependency → Type 0
-IsGivenIn m scope d = AreGiven m scope d.arguments
+IsGivenIn m scope d = AreReadableGroups m scope d.arguments

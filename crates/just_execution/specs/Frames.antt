@@ -10,7 +10,7 @@ use Rattle.just_recipe.specs.declared.recipe.Recipe.{Recipe}
 use Rattle.just_run_layers.specs.Evaluation.{Inquiry}
 use Rattle.just_run_layers.specs.declared.held.Held.{Held}
 use Rattle.just_run_layers.specs.Host.{Answer}
-use Rattle.just_run_layers.specs.Steps.{Kept, Question, Steps, Give, and_then, Took, both}
+use Rattle.just_run_layers.specs.Interactions.{Log, Question, Interaction, Return, and_then, HasTrace, both}
 use Rattle.just_execution.specs.declared.course.Course.{Course}
 use Rattle.just_execution.specs.declared.frame.Frame.{Frame}
 use Rattle.just_execution.specs.declared.frame.Frame.TheVariants.{Call, Block, Back}
@@ -19,16 +19,16 @@ use Rattle.just_execution.specs.declared.task.Task.{Task}
 use Rattle.just_parts.specs.Syntax.{SyntaxAnswers}
 use Rattle.just_execution.specs.Homes.{IsCallable, IsServed, Modules}
 use Rattle.just_execution.specs.Pairs.{AllBelow, table_of}
-use Rattle.just_execution.specs.Leaves.{leaves_of}
+use Rattle.just_execution.specs.TaskInteractions.{interactions_of}
 use Rattle.just_execution.specs.Scene.{Scene}
-use Rattle.just_execution.specs.Walking.{Leaves, State, fresh_steps, ran_steps, walk_steps}
+use Rattle.just_execution.specs.Walking.{TaskInteractions, State, fresh_steps, ran_steps, walk_steps}
 
 -- the walk of a task, with as much fuel as its place needs
-abbrev pub walk_at : Leaves → State → Task → Steps State
-walk_at leaves s t = walk_steps leaves (suc t.pair.recipe) s t
+abbrev pub walk_at : TaskInteractions → State → Task → Interaction State
+walk_at of_task s t = walk_steps of_task (suc t.pair.recipe) s t
 
-abbrev pub block_at : Leaves → Task → Held → State → Steps State
-block_at leaves t h s = ran_steps leaves (walk_steps leaves t.pair.recipe) t h s
+abbrev pub block_at : TaskInteractions → Task → Held → State → Interaction State
+block_at of_task t h s = ran_steps of_task (walk_steps of_task t.pair.recipe) t h s
 
 -- the state with other counters
 abbrev pub with_calls : State → List ℕ → State
@@ -39,15 +39,15 @@ abbrev pub under : OpenTable → List ℕ → State
 under outer calls = record { number = outer.number; table = table_of outer.table; calls = calls }
 
 -- what a frame stands for
-abbrev pub frame_steps : Leaves → Frame → State → Steps State
-frame_steps leaves (Call t) s = walk_at leaves s t
-frame_steps leaves (Block t h) s = block_at leaves t h s
-frame_steps leaves (Back outer) s = Give (under outer s.calls)
+abbrev pub frame_steps : TaskInteractions → Frame → State → Interaction State
+frame_steps of_task (Call t) s = walk_at of_task s t
+frame_steps of_task (Block t h) s = block_at of_task t h s
+frame_steps of_task (Back outer) s = Return (under outer s.calls)
 
 -- what is left
-abbrev pub left : Leaves → List Frame → State → Steps State
-left leaves [] s = Give s
-left leaves (x ∷ xs) s = and_then (left leaves xs s) (frame_steps leaves x)
+abbrev pub continuation_from : TaskInteractions → List Frame → State → Interaction State
+continuation_from of_task [] s = Return s
+continuation_from of_task (x ∷ xs) s = and_then (continuation_from of_task xs s) (frame_steps of_task x)
 
 -- the calls of tasks, the first of which is taken next
 abbrev pub calls_of : List Task → List Frame
@@ -55,13 +55,13 @@ calls_of [] = []
 calls_of (t ∷ ts) = calls_of ts ++ Call t ∷ []
 
 -- its task can be called (by what P says) and what it holds serves it (by what Q says), or its counter is there
-abbrev pub IsOpen : (Task → Type 0) → (Task → Held → Type 0) → ℕ → Frame → Type 0
-IsOpen P Q counters (Call t) = P t
-IsOpen P Q counters (Block t h) = P t × Q t h
-IsOpen P Q counters (Back outer) = outer.number < counters
+abbrev pub IsSoundFrame : (Task → Type 0) → (Task → Held → Type 0) → ℕ → Frame → Type 0
+IsSoundFrame P Q counters (Call t) = P t
+IsSoundFrame P Q counters (Block t h) = P t × Q t h
+IsSoundFrame P Q counters (Back outer) = outer.number < counters
 
-abbrev pub AreOpen : (Task → Type 0) → (Task → Held → Type 0) → ℕ → List Frame → Type 0
-AreOpen P Q counters frames = All (IsOpen P Q counters) frames
+abbrev pub AreSoundFrames : (Task → Type 0) → (Task → Held → Type 0) → ℕ → List Frame → Type 0
+AreSoundFrames P Q counters frames = All (IsSoundFrame P Q counters) frames
 
 -- How much is left at most, where a task leads to fewer than `most` others: it falls with each frame that is taken.
 abbrev pub cost : ℕ → ℕ → ℕ
@@ -83,49 +83,49 @@ state_of course = under course.current course.calls.items
 
 -- each task that is left can be called, what it holds serves it, and each table has its counter
 pub record IsSound (P : Task → Type 0) (Q : Task → Held → Type 0) (course : Course) : Type 0 where
-  pub frames : AreOpen P Q (length course.calls.items) course.frames.items
+  pub frames : AreSoundFrames P Q (length course.calls.items) course.frames.items
   pub number : course.current.number < length course.calls.items
 
 -- so of a run in modules
 abbrev pub IsSoundIn : SyntaxAnswers → Modules → List (Recipe Dependency) → Course → Type 0
 IsSoundIn answers modules recipes course = IsSound (IsCallable answers modules recipes) (IsServed answers modules recipes) course
 
-abbrev pub IsOpenIn : SyntaxAnswers → Modules → List (Recipe Dependency) → ℕ → Frame → Type 0
-IsOpenIn answers modules recipes counters frame = IsOpen (IsCallable answers modules recipes) (IsServed answers modules recipes) counters frame
+abbrev pub IsSoundFrameIn : SyntaxAnswers → Modules → List (Recipe Dependency) → ℕ → Frame → Type 0
+IsSoundFrameIn answers modules recipes counters frame = IsSoundFrame (IsCallable answers modules recipes) (IsServed answers modules recipes) counters frame
 
 -- what is left of it; and with one more frame
-abbrev pub left_of : Leaves → Course → Steps State
-left_of leaves course = left leaves course.frames.items (state_of course)
+abbrev pub continuation_of : TaskInteractions → Course → Interaction State
+continuation_of of_task course = continuation_from of_task course.frames.items (state_of course)
 
-abbrev pub left_with : Leaves → Frame → Course → Steps State
-left_with leaves frame course = left leaves (course.frames.items ++ frame ∷ []) (state_of course)
+abbrev pub continuation_with : TaskInteractions → Frame → Course → Interaction State
+continuation_with of_task frame course = continuation_from of_task (course.frames.items ++ frame ∷ []) (state_of course)
 
 -- steps were taken, from the first to the second where it succeeds
-abbrev pub Goes : {A U : Type 0} → (Question → Option Answer) → Steps A → Kept → Steps A → Kept → Result U Halt → Type 0
-Goes {A} promised first old second mid (Ok u) = (new : Kept) (r : Result A Halt) → Took promised second mid new r → Took promised first old new r
-Goes promised first old second mid (Err e) = Took promised first old mid (Err e)
+abbrev pub Simulates : {A U : Type 0} → (Question → Option Answer) → Interaction A → Log → Interaction A → Log → Result U Halt → Type 0
+Simulates {A} promised first old second mid (Ok u) = (new : Log) (r : Result A Halt) → HasTrace promised second mid new r → HasTrace promised first old new r
+Simulates promised first old second mid (Err e) = HasTrace promised first old mid (Err e)
 
 -- a value in place of that of a success
-abbrev pub with_value : {A U E : Type 0} → A → Result U E → Result A E
-with_value x (Ok u) = Ok x
-with_value x (Err e) = Err e
+abbrev pub replace_value : {A U E : Type 0} → A → Result U E → Result A E
+replace_value x (Ok u) = Ok x
+replace_value x (Err e) = Err e
 
 -- a frame of a run in a scene leads from what was left to what is left
-abbrev pub Leads : (Inquiry → Option Answer) → (Entry → Option Answer) → Scene → Frame → Course → Kept → Course → Kept → Result (Unit {0}) Halt → Type 0
-Leads evaluator host scene frame old kept new keeps result =
-    Goes (both evaluator host) (left_with (leaves_of scene) frame old) kept (left_of (leaves_of scene) new) keeps result
+abbrev pub SimulatesFrame : (Inquiry → Option Answer) → (Entry → Option Answer) → Scene → Frame → Course → Log → Course → Log → Result (Unit {0}) Halt → Type 0
+SimulatesFrame evaluator host scene frame old kept new keeps result =
+    Simulates (both evaluator host) (continuation_with (interactions_of scene) frame old) kept (continuation_of (interactions_of scene) new) keeps result
 
 -- the call of a task; and its block, with what it holds
-abbrev pub Calls : (Inquiry → Option Answer) → (Entry → Option Answer) → Scene → Task → Course → Kept → Course → Kept → Result (Unit {0}) Halt → Type 0
-Calls evaluator host scene task old kept new keeps result = Leads evaluator host scene (Call task) old kept new keeps result
+abbrev pub SimulatesCall : (Inquiry → Option Answer) → (Entry → Option Answer) → Scene → Task → Course → Log → Course → Log → Result (Unit {0}) Halt → Type 0
+SimulatesCall evaluator host scene task old kept new keeps result = SimulatesFrame evaluator host scene (Call task) old kept new keeps result
 
-abbrev pub Blocks : (Inquiry → Option Answer) → (Entry → Option Answer) → Scene → Task → Held → Course → Kept → Course → Kept → Result (Unit {0}) Halt → Type 0
-Blocks evaluator host scene task held old kept new keeps result = Leads evaluator host scene (Block task held) old kept new keeps result
+abbrev pub SimulatesBlock : (Inquiry → Option Answer) → (Entry → Option Answer) → Scene → Task → Held → Course → Log → Course → Log → Result (Unit {0}) Halt → Type 0
+SimulatesBlock evaluator host scene task held old kept new keeps result = SimulatesFrame evaluator host scene (Block task held) old kept new keeps result
 
 -- all that was left was taken
-abbrev pub Finishes : (Inquiry → Option Answer) → (Entry → Option Answer) → Scene → Course → Kept → Course → Kept → Result (Unit {0}) Halt → Type 0
-Finishes evaluator host scene old kept new keeps result =
-    Took (both evaluator host) (left_of (leaves_of scene) old) kept keeps (with_value (state_of new) result)
+abbrev pub SimulatesRest : (Inquiry → Option Answer) → (Entry → Option Answer) → Scene → Course → Log → Course → Log → Result (Unit {0}) Halt → Type 0
+SimulatesRest evaluator host scene old kept new keeps result =
+    HasTrace (both evaluator host) (continuation_of (interactions_of scene) old) kept keeps (replace_value (state_of new) result)
 
 -- fewer is left than a frame more
 abbrev pub IsLighter : List Frame → List Frame → Frame → Type 0
@@ -133,8 +133,8 @@ IsLighter new old frame = weight (2 ^ 64) new < weight (2 ^ 64) (old ++ frame �
 
 -- tasks are called next under a table of their own, where there are any
 pub record IsOpened (old : Course) (tasks : List Task) (new : Course) : Type 0 where
-  pub left : (leaves : Leaves) → left_of leaves new ≡
-      and_then (fresh_steps (walk_at leaves) tasks old.calls.items) (λ calls. left leaves old.frames.items (with_calls (state_of old) calls))
+  pub left : (of_task : TaskInteractions) → continuation_of of_task new ≡
+      and_then (fresh_steps (walk_at of_task) tasks old.calls.items) (λ calls. continuation_from of_task old.frames.items (with_calls (state_of old) calls))
   pub sound : (answers : SyntaxAnswers) (modules : Modules) (recipes : List (Recipe Dependency)) → All (IsCallable answers modules recipes) tasks →
       IsSoundIn answers modules recipes old → IsSoundIn answers modules recipes new
   pub lighter : (task : Task) (held : Held) → AllBelow task.pair.recipe tasks → IsLighter new.frames.items old.frames.items (Block task held)

@@ -15,7 +15,7 @@ use Rattle.just_recipe.specs.Grouping.{joined}
 use Rattle.just_recipe.specs.declared.dependency.Dependency.{Dependency}
 use Rattle.just_recipe.specs.declared.dependency.DependencyArgument.{DependencyArgument}
 use Rattle.just_recipe.specs.declared.recipe.Recipe.{Recipe}
-use Rattle.just_run_layers.specs.Covering.{Covers, module_of}
+use Rattle.just_run_layers.specs.Covering.{BindsRead, module_of}
 use Rattle.just_run_layers.specs.declared.held.Held.{Held}
 use Rattle.just_execution.specs.declared.scopes.ModuleScope.{ModuleScope}
 use Rattle.just_execution.specs.declared.task.Task.{Task}
@@ -35,31 +35,31 @@ arguments_of d = joined d.arguments
 
 -- what an expression in its scope reads is bound among some values
 abbrev pub IsRead : Known → Scope → Scoped → Type 0
-IsRead known scope s = Covers known s.hidden scope s.expression
+IsRead known scope s = BindsRead known s.hidden scope s.expression
 
 -- whatever a recipe of a module reads is bound in a scope
 abbrev pub IsBound : SyntaxAnswers → ModuleScope → Recipe Dependency → Scope → Type 0
 IsBound answers m r scope = All (IsRead (module_of m.context) scope) (scopes_of arguments_of answers m.context.settings.now r)
 
 -- a module is that of a recipe: it has the recipe's path, and what the recipe reads is bound among its values
-pub record IsHomeOf (answers : SyntaxAnswers) (m : ModuleScope) (r : Recipe Dependency) : Type 0 where
+pub record IsModuleScopeOf (answers : SyntaxAnswers) (m : ModuleScope) (r : Recipe Dependency) : Type 0 where
   pub path : r.module_path ≡ Some m.context.module_path.now
   pub bound : IsBound answers m r m.scope
 
--- a recipe is at home: its module is among those of the run
-pub record IsHome (answers : SyntaxAnswers) (modules : Modules) (r : Recipe Dependency) : Type 0 where
+-- a recipe has its module's scope: its module is among those of the run, and what the recipe reads is bound there
+pub record HasModuleScope (answers : SyntaxAnswers) (modules : Modules) (r : Recipe Dependency) : Type 0 where
   pub home : ModuleScope
   pub there : module_at modules r.module_path ≡ Some home
-  pub own : IsHomeOf answers home r
+  pub own : IsModuleScopeOf answers home r
 
--- each recipe that they lead to is at home
-abbrev pub AreHome : SyntaxAnswers → Modules → List (Recipe Dependency) → List Task → Type 0
-AreHome answers modules recipes tops = (place : ℕ) (recipe : Recipe Dependency) → LeadTo recipes tops place → slice_get recipes place ≡ Some recipe → IsHome answers modules recipe
+-- each recipe that they lead to has it
+abbrev pub AllHaveModuleScope : SyntaxAnswers → Modules → List (Recipe Dependency) → List Task → Type 0
+AllHaveModuleScope answers modules recipes tops = (place : ℕ) (recipe : Recipe Dependency) → LeadTo recipes tops place → slice_get recipes place ≡ Some recipe → HasModuleScope answers modules recipe
 
--- for the private functions: a task that can be called: its recipe is there, and what it leads to is at home
+-- for the private functions: a task that can be called: its recipe is there, and what it leads to has its module's scope
 pub record IsCallable (answers : SyntaxAnswers) (modules : Modules) (recipes : List (Recipe Dependency)) (t : Task) : Type 0 where
   pub place : t.pair.recipe < length recipes
-  pub home : AreHome answers modules recipes (t ∷ [])
+  pub home : AllHaveModuleScope answers modules recipes (t ∷ [])
 
 -- what is held serves a recipe in a module: what the recipe reads is bound in it, and each of the recipe's parameters has a value
 pub record ServesIn (answers : SyntaxAnswers) (m : ModuleScope) (r : Recipe Dependency) (h : Held) : Type 0 where

@@ -13,8 +13,8 @@ abbrev pub needed_places : List (Recipe Dependency) → ℕ → List ℕ
 needed_places recipes place = map (λ (d : Dependency). place_of recipes d.recipe.0) (needed recipes place)
 
 -- what stands at place a depends on what stands at place b
-abbrev pub DependsOn : List (Recipe Dependency) → ℕ → ℕ → Type 0
-DependsOn recipes a b = Contains (needed_places recipes a) b
+abbrev pub DependsOnPlace : List (Recipe Dependency) → ℕ → ℕ → Type 0
+DependsOnPlace recipes a b = Contains (needed_places recipes a) b
 
 -- the places of tasks
 abbrev pub places : List Task → List ℕ
@@ -22,4 +22,4 @@ places ts = map (λ (t : Task). t.pair.recipe) ts
 
 -- tasks lead to a place: it is that of one of them, or what stands there is depended on by what they lead to
 abbrev pub LeadTo : List (Recipe Dependency) → List Task → ℕ → Type 0
-LeadTo recipes tops place = Reached (DependsOn recipes) (places tops) [] place
+LeadTo recipes tops place = Reached (DependsOnPlace recipes) (places tops) [] place

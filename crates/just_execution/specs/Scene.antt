@@ -63,8 +63,8 @@ abbrev pub contents_found : Option ModuleScope → Option ModuleContents
 contents_found None = None
 contents_found (Some m) = Some (contents_of m)
 
-abbrev pub scene_of : SyntaxAnswers → Modules → List (Recipe Dependency) → Scene
-scene_of syntax modules recipes = record { syntax = syntax; recipes = recipes; modules = λ path. contents_found (module_at modules path) }
+abbrev pub scene_with : SyntaxAnswers → Modules → List (Recipe Dependency) → Scene
+scene_with syntax modules recipes = record { syntax = syntax; recipes = recipes; modules = λ path. contents_found (module_at modules path) }
 
 abbrev pub scene_in : {S : Type 0} → SyntaxAnswers → Scopes S → List (Recipe Dependency) → Scene
-scene_in syntax scopes recipes = scene_of syntax scopes.modules (running scopes.no_dependencies recipes)
+scene_in syntax scopes recipes = scene_with syntax scopes.modules (running scopes.no_dependencies recipes)

@@ -6,9 +6,9 @@ ghost use Rattle.just_recipe.specs.Recipes.{numbers};
 ghost use Rattle.just_run_layers.specs.Covering.{IsCovered, module_of};
 ghost use Rattle.just_run_layers.specs.Evaluation.{surroundings};
 ghost use Rattle.just_run_layers.specs.Host.{KeepsPromises};
-ghost use Rattle.just_execution.specs.Arguments.{AreGiven, AreReadable, IsGivenIn, IsReadable, argument_steps, dependencies_steps, groups_steps, task_at, tasks_with, texts_given, texts_steps, value_steps, with_text};
+ghost use Rattle.just_execution.specs.Arguments.{AreReadableGroups, AreReadableArguments, IsGivenIn, IsReadableArgument, argument_steps, dependencies_steps, groups_steps, task_at, tasks_with, texts_given, texts_steps, value_steps, with_text};
 ghost use Rattle.just_execution.specs.Frames.{items_of};
-ghost use Rattle.just_execution.specs.Leaves.{AsksAlone, surrounded};
+ghost use Rattle.just_execution.specs.TaskInteractions.{AsksAlone, surrounded};
 ghost use Rattle.just_execution.specs.Scene.{contents_of};
 
 use crate::pair::Pair;
@@ -70,7 +70,7 @@ fn ask_argument<'src, E: Evaluation>(
     is_dependency: bool,
     argument: &DependencyArgument<'src>,
 ) -> Result<Sequence<Text>, Halt<'src>>
-    requires { IsReadable (module_of context.now) scope.now argument.now }
+    requires { IsReadableArgument (module_of context.now) scope.now argument.now }
     ensures keeps { KeepsPromises (E.promised evaluation.old) (E.promised evaluation.new) }
     ensures took { let steps = argument_steps (surroundings context.now scope.now is_dependency []) argument.now in
         AsksAlone (E.promised evaluation.old) steps (E.requests evaluation.old) (E.requests evaluation.new) result }
@@ -95,7 +95,7 @@ fn ask_group<'src, E: Evaluation>(
     is_dependency: bool,
     arguments: &[DependencyArgument<'src>],
 ) -> Result<Sequence<Text>, Halt<'src>>
-    requires { AreReadable (module_of context.now) scope.now arguments.now }
+    requires { AreReadableArguments (module_of context.now) scope.now arguments.now }
     ensures keeps { KeepsPromises (E.promised evaluation.old) (E.promised evaluation.new) }
     ensures took { let steps = texts_steps (surroundings context.now scope.now is_dependency []) arguments.now in
         AsksAlone (E.promised evaluation.old) steps (E.requests evaluation.old) (E.requests evaluation.new) result }
@@ -117,7 +117,7 @@ fn ask_groups<'src, E: Evaluation>(
     is_dependency: bool,
     given: &[Sequence<DependencyArgument<'src>>],
 ) -> Result<Groups, Halt<'src>>
-    requires { AreGiven (module_of context.now) scope.now given.now }
+    requires { AreReadableGroups (module_of context.now) scope.now given.now }
     ensures keeps { KeepsPromises (E.promised evaluation.old) (E.promised evaluation.new) }
     ensures took { let steps = groups_steps (surroundings context.now scope.now is_dependency []) given.now in
         AsksAlone (E.promised evaluation.old) steps (E.requests evaluation.old) (E.requests evaluation.new) result }

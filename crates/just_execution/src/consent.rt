@@ -1,10 +1,10 @@
 //! Whether a task may run: its confirmation.
 ghost use Rattle.std.specs.Prelude.{◌≡◌};
 ghost use Rattle.just_execution.specs.Homes.{ServesIn};
-ghost use Rattle.just_execution.specs.Leaves.{consent_by, consent_steps};
+ghost use Rattle.just_execution.specs.TaskInteractions.{consent_by, consent_steps};
 ghost use Rattle.just_execution.specs.Scene.{contents_of};
 ghost use Rattle.just_run_layers.specs.Host.{KeepsPromises};
-ghost use Rattle.just_run_layers.specs.Steps.{Took, both, kept_by};
+ghost use Rattle.just_run_layers.specs.Interactions.{HasTrace, both, log_of};
 
 use crate::scopes::ModuleScope;
 use crate::task::Task;
@@ -31,10 +31,10 @@ pub fn ask_consent<'src, S: Syntax, E: Evaluation, H: Host>(
     requires { ServesIn (S.answers syntax.now) home.now recipe.now held.now }
     ensures keeps { KeepsPromises (E.promised evaluation.old) (E.promised evaluation.new) }
     ensures keeps_host { KeepsPromises (H.promised host.old) (H.promised host.new) }
-    ensures took { let first = kept_by (H.entries host.old) (E.requests evaluation.old) in
-        let last = kept_by (H.entries host.new) (E.requests evaluation.new) in
+    ensures took { let first = log_of (H.entries host.old) (E.requests evaluation.old) in
+        let last = log_of (H.entries host.new) (E.requests evaluation.new) in
         let steps = consent_steps (consent_by (S.answers syntax.now) task.now recipe.now (contents_of home.now) held.now) in
-        Took (both (E.promised evaluation.old) (H.promised host.old)) steps first last result }
+        HasTrace (both (E.promised evaluation.old) (H.promised host.old)) steps first last result }
 {
     if home.context.config.yes {
         return Ok(());

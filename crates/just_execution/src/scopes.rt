@@ -1,6 +1,6 @@
 //! What recipes run in: the modules of a run.
 ghost use Rattle.std.specs.Prelude.{◌≡◌, Some};
-ghost use Rattle.just_execution.specs.Homes.{IsHome, IsHomeOf, module_at};
+ghost use Rattle.just_execution.specs.Homes.{HasModuleScope, IsModuleScopeOf, module_at};
 
 use just_parts::Recipe;
 use just_parts::layers::{Scope, Syntax};
@@ -33,8 +33,8 @@ pub(crate) fn module_of<'a, 'run, 'src, S: Syntax>(
     scopes: &'a Scopes<'run, 'src, S>,
     recipe: &Recipe<'src>,
 ) -> &'a ModuleScope<'run, 'src>
-    requires { IsHome (S.answers scopes.now.syntax.now) scopes.now.modules recipe.now }
-    ensures own { IsHomeOf (S.answers scopes.now.syntax.now) result.now recipe.now }
+    requires { HasModuleScope (S.answers scopes.now.syntax.now) scopes.now.modules recipe.now }
+    ensures own { IsModuleScopeOf (S.answers scopes.now.syntax.now) result.now recipe.now }
     ensures there { module_at scopes.now.modules recipe.now.module_path ≡ Some result.now }
 {
     scopes.modules.get(recipe.module_path()).unwrap()

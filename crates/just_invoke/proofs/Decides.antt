@@ -12,11 +12,11 @@ use Rattle.just_tail.specs.Words.{Words}
 use Rattle.just_justfile.specs.declared.justfile.Justfile.{Justfile, out-Justfile}
 use Rattle.just_justfile.specs.declared.justfile.RecipeKey.{RecipeKey}
 use Rattle.just_justfile.specs.Closed.{Held, default_recipe, name_of}
-use Rattle.just_invoke.specs.Cause.{Cause, with_recipe, unknown_recipe, unknown_submodule, expected_submodule, recipe_disabled, alias_disabled, module_absent, no_recipes, no_default, default_requires}
+use Rattle.just_invoke.specs.Cause.{InvocationFault, with_recipe, unknown_recipe, unknown_submodule, expected_submodule, recipe_disabled, alias_disabled, module_absent, no_recipes, no_default, default_requires}
 use Rattle.just_invoke.specs.Words.{IsPathWord, has_colon, is_empty}
 use Rattle.just_invoke.specs.Meaning.{Meaning, a_module, a_recipe, disabled_recipe, disabled_alias, absent_module, nothing, meaning}
-use Rattle.just_invoke.specs.Head.{NoDefault, Leads, Misleads, goes_on, place_of, WordsLead, WordsMislead, NoPath, NoHead, IsHead, PathLeads}
-use Rattle.just_invoke.specs.Split.{Counts, Invoked, Invokes, Chain, IsSplit, Stops, IsFault}
+use Rattle.just_invoke.specs.Head.{NoDefault, MeaningLeads, MeaningMisleads, goes_on, place_of, WordsLead, WordsMislead, NoPath, NoHead, IsHead, PathLeads}
+use Rattle.just_invoke.specs.Split.{Counts, Invoked, Invokes, Chain, IsSplit, NoInvocation, HasWordsFault}
 use Rattle.just_invoke.proofs.Unique.{invokes_takes}
 use Rattle.just_invoke.proofs.Readings.{ReadingOr, AreUtf8, reading_or_stop}
 
@@ -26,7 +26,7 @@ decide_path false word = decide_word_path word
 
 -- the default is taken, or there is a cause
 default_or : (table : List (Text × RecipeKey)) (o : Option (Recipe Dependency)) →
-    ((r : Recipe Dependency) × (o ≡ Some r) × (least_arguments r.parameters ≡ 0)) ⊎ ((cause : Cause) × NoDefault table o cause)
+    ((r : Recipe Dependency) × (o ≡ Some r) × (least_arguments r.parameters ≡ 0)) ⊎ ((cause : InvocationFault) × NoDefault table o cause)
 default_or [] None = inr (no_recipes, refl)
 default_or (x ∷ xs) None = inr (no_default, refl)
 default_or table (Some r) = elim (cases_eq (least_arguments r.parameters) 0) [
@@ -38,7 +38,7 @@ default_or table (Some r) = elim (cases_eq (least_arguments r.parameters) 0) [
 abbrev LeadsOr : Justfile → Held → Justfile → Bool → Words → Words → Type 0
 LeadsOr root recipes here one path names =
     ((head : Words) × (rest : Words) × (r : Recipe Dependency) × (names ≡ head ++ rest) × (one ≡ true → rest ≡ []) × WordsLead root recipes here head rest r)
-    ⊎ ((cause : Cause) × WordsMislead root recipes here one path names cause)
+    ⊎ ((cause : InvocationFault) × WordsMislead root recipes here one path names cause)
 
 none_follow : (names : Words) → goes_on true names ≡ false → names ≡ []
 none_follow [] e = refl
@@ -49,14 +49,14 @@ ends_all true names e f = none_follow names e
 ends_all false names e f = absurd (false≢true f)
 
 -- where a name of this meaning leads, or why it does not
-abbrev StepOr : Meaning → (Words → Words → Recipe Dependency → Justfile → Type 0) → (Cause → Justfile → Type 0) → Bool → Bool → Words → Text → Words → Type 0
+abbrev StepOr : Meaning → (Words → Words → Recipe Dependency → Justfile → Type 0) → (InvocationFault → Justfile → Type 0) → Bool → Bool → Words → Text → Words → Type 0
 StepOr m On Off one go path place names =
-    ((head : Words) × (rest : Words) × (r : Recipe Dependency) × (names ≡ head ++ rest) × (one ≡ true → rest ≡ []) × Leads m (On head rest r) head r)
-    ⊎ ((cause : Cause) × Misleads m (Off cause) one go path place cause)
+    ((head : Words) × (rest : Words) × (r : Recipe Dependency) × (names ≡ head ++ rest) × (one ≡ true → rest ≡ []) × MeaningLeads m (On head rest r) head r)
+    ⊎ ((cause : InvocationFault) × MeaningMisleads m (Off cause) one go path place cause)
 
-step_or : (m : Meaning) (On : Words → Words → Recipe Dependency → Justfile → Type 0) (Off : Cause → Justfile → Type 0) (one go : Bool) (path : Words) (place : Text) (names : Words) →
+step_or : (m : Meaning) (On : Words → Words → Recipe Dependency → Justfile → Type 0) (Off : InvocationFault → Justfile → Type 0) (one go : Bool) (path : Words) (place : Text) (names : Words) →
     (go ≡ false → one ≡ true → names ≡ []) →
-    ((next : Justfile) → ((head : Words) × (rest : Words) × (r : Recipe Dependency) × (names ≡ head ++ rest) × (one ≡ true → rest ≡ []) × On head rest r next) ⊎ ((cause : Cause) × Off cause next)) →
+    ((next : Justfile) → ((head : Words) × (rest : Words) × (r : Recipe Dependency) × (names ≡ head ++ rest) × (one ≡ true → rest ≡ []) × On head rest r next) ⊎ ((cause : InvocationFault) × Off cause next)) →
     StepOr m On Off one go path place names
 step_or (a_module next) On Off one go path place names ends on = on next
 step_or (a_recipe found) On Off one true path place names ends on = inr (expected_submodule (text_of path false), refl)
@@ -88,7 +88,7 @@ one_word root recipes names head rest r e f p =
     subst (λ ns. WordsLead root recipes root ns [] r) g (subst (λ t. WordsLead root recipes root head t r) f p)
 
 path_or : (root : Justfile) (recipes : Held) (last : Bool) (w : Text) → PathOrNone (IsPathWord last w) →
-    ((r : Recipe Dependency) × PathLeads root recipes last w r) ⊎ ((cause : Cause) × NoPath root recipes last w cause)
+    ((r : Recipe Dependency) × PathLeads root recipes last w r) ⊎ ((cause : InvocationFault) × NoPath root recipes last w cause)
 path_or root recipes last w (inr none) = inr (unknown_recipe w, inl (none, refl))
 path_or root recipes last w (inl p) = elim (leads_or root recipes root true [] p.0) [
   | inl (head, rest, r, e, all, q) ↦ inl (r, (p.0, p.1, one_word root recipes p.0 head rest r e (all refl) q))
@@ -99,7 +99,7 @@ path_or root recipes last w (inl p) = elim (leads_or root recipes root true [] p
 abbrev HeadOr : Justfile → Held → Words → Type 0
 HeadOr root recipes words =
     ((head : Words) × (rest : Words) × (r : Recipe Dependency) × (words ≡ head ++ rest) × IsHead root recipes head rest r)
-    ⊎ ((cause : Cause) × NoHead root recipes words cause)
+    ⊎ ((cause : InvocationFault) × NoHead root recipes words cause)
 
 -- words in turn, of which the first has no colon, are a head
 head_in_turn : (root : Justfile) (recipes : Held) (w : Text) (ws head rest : Words) (r : Recipe Dependency) → has_colon w ≡ false → w ∷ ws ≡ head ++ rest →
@@ -110,7 +110,7 @@ head_in_turn root recipes w ws (x ∷ xs) rest r e f p =
     let none : has_colon x ≡ false = ap has_colon same ∙ e in
     subst (λ b. MatchBool b ((xs ≡ []) × PathLeads root recipes (is_empty rest) x r) (WordsLead root recipes root (x ∷ xs) rest r)) (sym none) p
 
-no_head_in_turn : (root : Justfile) (recipes : Held) (w : Text) (ws : Words) (c : Cause) → has_colon w ≡ false → WordsMislead root recipes root false [] (w ∷ ws) c → NoHead root recipes (w ∷ ws) c
+no_head_in_turn : (root : Justfile) (recipes : Held) (w : Text) (ws : Words) (c : InvocationFault) → has_colon w ≡ false → WordsMislead root recipes root false [] (w ∷ ws) c → NoHead root recipes (w ∷ ws) c
 no_head_in_turn root recipes w ws c e p =
     subst (λ b. MatchBool b (NoPath root recipes (is_empty ws) w c) (WordsMislead root recipes root false [] (w ∷ ws) c)) (sym e) p
 
@@ -137,7 +137,7 @@ heads root recipes (w ∷ ws) = word_or root recipes w ws (has_colon w) refl
 
 -- an invocation begins the words, or there is a cause
 abbrev BeginsOr : Counts → Justfile → Held → Words → Type 0
-BeginsOr counts root recipes words = ((after : Words) × (i : Invoked) × Invokes counts root recipes words after i) ⊎ ((cause : Cause) × Stops counts root recipes words cause)
+BeginsOr counts root recipes words = ((after : Words) × (i : Invoked) × Invokes counts root recipes words after i) ⊎ ((cause : InvocationFault) × NoInvocation counts root recipes words cause)
 
 begins_after : (counts : Counts) (root : Justfile) (recipes : Held) (words head rest : Words) (r : Recipe Dependency) → words ≡ head ++ rest → IsHead root recipes head rest r →
     ReadingOr counts r rest → BeginsOr counts root recipes words
@@ -176,7 +176,7 @@ begins counts root recipes words u = begins_head counts root recipes words u (he
 abbrev ChainOr : Counts → Justfile → Held → Words → Type 0
 ChainOr counts root recipes words =
     ((is : List Invoked) × Chain counts root recipes words is [])
-    ⊎ ((cause : Cause) × (is : List Invoked) × (rest : Words) × Chain counts root recipes words is rest × (rest ≢ []) × Stops counts root recipes rest cause)
+    ⊎ ((cause : InvocationFault) × (is : List Invoked) × (rest : Words) × Chain counts root recipes words is rest × (rest ≢ []) × NoInvocation counts root recipes rest cause)
 
 chain_more : (counts : Counts) (root : Justfile) (recipes : Held) (words after : Words) (i : Invoked) → words ≢ [] → Invokes counts root recipes words after i → ChainOr counts root recipes after →
     ChainOr counts root recipes words
@@ -206,13 +206,13 @@ none_after (h ∷ hs) tail after e = (cc)
 
 -- no words are an invocation, or have a fault
 empty_or : (counts : Counts) (root : Justfile) (recipes : Held) → BeginsOr counts root recipes [] →
-    ((is : List Invoked) × IsSplit counts root recipes [] is) ⊎ ((cause : Cause) × IsFault counts root recipes [] cause)
+    ((is : List Invoked) × IsSplit counts root recipes [] is) ⊎ ((cause : InvocationFault) × HasWordsFault counts root recipes [] cause)
 empty_or counts root recipes (inl (after, i, p)) =
     inl (i ∷ [], (i, refl, subst (λ ws. Invokes counts root recipes [] ws i) (none_after p.head p.tail after p.whole) p))
 empty_or counts root recipes (inr q) = inr (q.0, ([], [], refl, inr refl, q.1))
 
 pub split_or_fault : (counts : Counts) (root : Justfile) (recipes : Held) (words : Words) → AreUtf8 words →
-    ((is : List Invoked) × IsSplit counts root recipes words is) ⊎ ((cause : Cause) × IsFault counts root recipes words cause)
+    ((is : List Invoked) × IsSplit counts root recipes words is) ⊎ ((cause : InvocationFault) × HasWordsFault counts root recipes words cause)
 split_or_fault counts root recipes [] u = empty_or counts root recipes (begins counts root recipes [] u)
 split_or_fault counts root recipes (w ∷ ws) u = elim (chain_or counts root recipes (suc (length (w ∷ ws))) (w ∷ ws) (omega arith) u) [
   | inl p ↦ inl p

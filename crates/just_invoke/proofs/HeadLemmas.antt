@@ -10,7 +10,7 @@ use Rattle.just_recipe.specs.declared.recipe.Recipe.{Recipe}
 use Rattle.just_tail.specs.Words.{Words}
 use Rattle.just_justfile.specs.declared.justfile.Justfile.{Justfile}
 use Rattle.just_justfile.specs.Closed.{Held}
-use Rattle.just_invoke.specs.Cause.{Cause}
+use Rattle.just_invoke.specs.Cause.{InvocationFault}
 use Rattle.just_invoke.specs.Words.{has_colon, is_empty}
 use Rattle.just_invoke.specs.Head.{TakesDefault, WordsLead, WordsMislead, IsHead, NoHead, PathLeads, NoPath}
 
@@ -57,7 +57,7 @@ head_by_path root recipes words word others last r e f g p =
     subst (λ ws. IsHead root recipes (texts (take 1 ws)) (texts (drop 1 ws)) r) (sym e) (head_of_path root recipes word others last r f (empty_by_length others last g) p)
 
 -- a word with a colon is none where its path leads to no recipe
-pub no_head_by_path : (root : Justfile) (recipes : Held) (words : List (Bor Text)) (word : Bor Text) (others : List (Bor Text)) (last : Bool) (o : Option Cause) →
+pub no_head_by_path : (root : Justfile) (recipes : Held) (words : List (Bor Text)) (word : Bor Text) (others : List (Bor Text)) (last : Bool) (o : Option InvocationFault) →
     words ≡ word ∷ others → has_colon word.now ≡ true → last ≡ eqb (length others) 0 →
     IfSome o (NoPath root recipes last word.now) → IfSome o (NoHead root recipes (texts words))
 no_head_by_path root recipes words word others last None e f g p = p

@@ -20,7 +20,7 @@ use Rattle.just_justfile.specs.declared.justfile.Justfile.{Justfile, out-Justfil
 use Rattle.just_justfile.specs.declared.justfile.RecipeKey.{RecipeKey}
 use Rattle.just_invoke.specs.Words.{has_colon, is_empty}
 use Rattle.just_invoke.specs.Meaning.{Meaning, a_module, a_recipe, disabled_recipe, disabled_alias, absent_module, nothing, aliased_module, disabling, found_or, meaning}
-use Rattle.just_invoke.specs.Head.{Leads, WordsLead, PathLeads, IsHead}
+use Rattle.just_invoke.specs.Head.{MeaningLeads, WordsLead, PathLeads, IsHead}
 use Rattle.just_invoke.specs.Split.{Counts, Invoked, invoked_of, Chain, IsSplit}
 use Rattle.just_invoke.specs.declared.invocation.Invocation.{Invocation}
 
@@ -78,7 +78,7 @@ means_held root recipes here name =
     (by_disabled_alias recipes (disabling (out-Justfile here).aliases.disabled name) _
     (by_absent recipes (is_some (find name (out-Justfile here).absent_modules))))))))
 
-leads_held_step : (recipes : Held) (m : Meaning) (On : Justfile → Type 0) (names : Words) (r : Recipe Dependency) → MeansHeld recipes m → ((next : Justfile) → On next → IsHeld recipes r) → Leads m On names r → IsHeld recipes r
+leads_held_step : (recipes : Held) (m : Meaning) (On : Justfile → Type 0) (names : Words) (r : Recipe Dependency) → MeansHeld recipes m → ((next : Justfile) → On next → IsHeld recipes r) → MeaningLeads m On names r → IsHeld recipes r
 leads_held_step recipes (a_module next) On names r h on p = on next p
 leads_held_step recipes (a_recipe found) On names r h on p = subst (IsHeld recipes) p.1 h
 leads_held_step recipes (disabled_recipe modules) On names r h on p = absurd p

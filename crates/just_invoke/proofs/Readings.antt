@@ -5,27 +5,27 @@ use Rattle.std.specs.Str.{IsUtf8}
 use Rattle.just_recipe.specs.declared.dependency.Dependency.{Dependency}
 use Rattle.just_recipe.specs.declared.recipe.Recipe.{Recipe}
 use Rattle.just_tail.specs.Words.{Words}
-use Rattle.just_tail.specs.Cause.{Cause}
+use Rattle.just_tail.specs.Cause.{ArgumentFault}
 use Rattle.just_tail.proofs.Decides as decides
 use Rattle.just_tail.proofs.Readings as readings
 use Rattle.just_justfile.specs.Closed.{name_of}
-use Rattle.just_invoke.specs.Split.{Counts, TakesArguments, NoArguments}
+use Rattle.just_invoke.specs.Split.{Counts, RecipeTakesArguments, NoArguments}
 
 pub reading_once : (counts : Counts) (r : Recipe Dependency) (tail other after rest : Words) (groups shown : List Words) → tail ++ after ≡ other ++ rest →
-    TakesArguments counts r tail after groups → TakesArguments counts r other rest shown → (tail ≡ other) × (after ≡ rest) × (groups ≡ shown)
+    RecipeTakesArguments counts r tail after groups → RecipeTakesArguments counts r other rest shown → (tail ≡ other) × (after ≡ rest) × (groups ≡ shown)
 reading_once counts r = readings.reading_once (counts (name_of r)) r.parameters
 
-pub reading_no_stop : (counts : Counts) (r : Recipe Dependency) (tail after : Words) (groups : List Words) (cause : Cause) →
-    TakesArguments counts r tail after groups → NoArguments counts r (tail ++ after) cause → ⊥
+pub reading_no_stop : (counts : Counts) (r : Recipe Dependency) (tail after : Words) (groups : List Words) (cause : ArgumentFault) →
+    RecipeTakesArguments counts r tail after groups → NoArguments counts r (tail ++ after) cause → ⊥
 reading_no_stop counts r = readings.reading_no_stop (counts (name_of r)) r.parameters
 
-pub stop_once : (counts : Counts) (r : Recipe Dependency) (words : Words) (a b : Cause) → NoArguments counts r words a → NoArguments counts r words b → a ≡ b
+pub stop_once : (counts : Counts) (r : Recipe Dependency) (words : Words) (a b : ArgumentFault) → NoArguments counts r words a → NoArguments counts r words b → a ≡ b
 stop_once counts r = readings.stop_once (counts (name_of r)) r.parameters
 
 abbrev pub ReadingOr : Counts → Recipe Dependency → Words → Type 0
 ReadingOr counts r words =
-    ((tail : Words) × (after : Words) × (groups : List Words) × (words ≡ tail ++ after) × TakesArguments counts r tail after groups)
-    ⊎ ((cause : Cause) × NoArguments counts r words cause)
+    ((tail : Words) × (after : Words) × (groups : List Words) × (words ≡ tail ++ after) × RecipeTakesArguments counts r tail after groups)
+    ⊎ ((cause : ArgumentFault) × NoArguments counts r words cause)
 
 -- texts, as words
 abbrev pub AreUtf8 : Words → Type 0

@@ -10,9 +10,9 @@ use Rattle.just_tail.specs.Cause as tail_cause
 use Rattle.just_tail.specs.Words.{Words}
 use Rattle.just_justfile.specs.declared.justfile.Justfile.{Justfile}
 use Rattle.just_justfile.specs.Closed.{Held, name_of}
-use Rattle.just_invoke.specs.Cause.{Cause, with_recipe}
+use Rattle.just_invoke.specs.Cause.{InvocationFault, with_recipe}
 use Rattle.just_invoke.specs.Head.{IsHead}
-use Rattle.just_invoke.specs.Split.{Counts, TakesArguments, NoArguments, Invoked, invoked_of, Invokes, Chain, IsSplit, Stops, IsFault}
+use Rattle.just_invoke.specs.Split.{Counts, RecipeTakesArguments, NoArguments, Invoked, invoked_of, Invokes, Chain, IsSplit, NoInvocation, HasWordsFault}
 use Rattle.just_invoke.specs.declared.invocation.Invocation.{Invocation}
 
 texts_cut : (n : ℕ) (words : List (Bor Text)) → texts words ≡ texts (take n words) ++ texts (drop n words)
@@ -34,7 +34,7 @@ module _ (counts : Counts) (root : Justfile) (recipes : Held) (words : List (Bor
     (rest_is : rest ≡ drop n words)
     (names : IsHead root recipes (texts (take n words)) (texts (drop n words)) r) where
   -- arguments of t words
-  pub invokes_from : (t : ℕ) (groups : List Words) → TakesArguments counts r (texts (take t rest)) (texts (drop t rest)) groups →
+  pub invokes_from : (t : ℕ) (groups : List Words) → RecipeTakesArguments counts r (texts (take t rest)) (texts (drop t rest)) groups →
       Invokes counts root recipes (texts words) (texts (drop (n + t) words)) (record { recipe = r; groups = groups })
   invokes_from t groups takes =
       let cut : texts (drop n words) ≡ texts (take t (drop n words)) ++ texts (drop t (drop n words)) = texts_cut t (drop n words) in
@@ -44,11 +44,11 @@ module _ (counts : Counts) (root : Justfile) (recipes : Held) (words : List (Bor
         tail = texts (take t (drop n words));
         whole = texts_cut n words ∙ ap (λ ws. texts (take n words) ++ ws) cut;
         names = subst (λ ws. IsHead root recipes (texts (take n words)) ws r) cut names;
-        takes = subst (λ ws. TakesArguments counts r (texts (take t ws)) (texts (drop t ws)) groups) rest_is takes;
+        takes = subst (λ ws. RecipeTakesArguments counts r (texts (take t ws)) (texts (drop t ws)) groups) rest_is takes;
       })
 
   -- no arguments
-  pub rejects_from : (why : tail_cause.Cause) (cause : Cause) → NoArguments counts r (texts rest) why → cause ≡ with_recipe (name_of r) why → Stops counts root recipes (texts words) cause
+  pub rejects_from : (why : tail_cause.ArgumentFault) (cause : InvocationFault) → NoArguments counts r (texts rest) why → cause ≡ with_recipe (name_of r) why → NoInvocation counts root recipes (texts words) cause
   rejects_from why cause stops says =
       inr (record {
         recipe = r;
@@ -90,10 +90,10 @@ chain_more counts root recipes words n t old new i left h same pushed invokes ch
     (some_left n words h, texts (drop (n + t) words), here, refl))
 
 -- none begins after those that were read
-pub fault_after : (counts : Counts) (root : Justfile) (recipes : Held) (words : List (Bor Text)) (n : ℕ) (is : List Invoked) (left : List (Bor Text)) (cause : Cause) → n < length words → left ≡ drop n words →
-    Chain counts root recipes (texts words) is (texts (drop n words)) → Stops counts root recipes (texts left) cause → IsFault counts root recipes (texts words) cause
+pub fault_after : (counts : Counts) (root : Justfile) (recipes : Held) (words : List (Bor Text)) (n : ℕ) (is : List Invoked) (left : List (Bor Text)) (cause : InvocationFault) → n < length words → left ≡ drop n words →
+    Chain counts root recipes (texts words) is (texts (drop n words)) → NoInvocation counts root recipes (texts left) cause → HasWordsFault counts root recipes (texts words) cause
 fault_after counts root recipes words n is left cause h same chain stops =
-    (is, texts (drop n words), chain, inl (some_left n words h), subst (λ ws. Stops counts root recipes (texts ws) cause) same stops)
+    (is, texts (drop n words), chain, inl (some_left n words h), subst (λ ws. NoInvocation counts root recipes (texts ws) cause) same stops)
 
 -- all words are read
 pub chain_all : (counts : Counts) (root : Justfile) (recipes : Held) (words : List (Bor Text)) (n : ℕ) (is : List Invoked) → length words ≤ n →
@@ -107,7 +107,7 @@ split_of_none counts root recipes [] zero is i e f p = (i, f, p)
 split_of_none counts root recipes [] (suc k) is i e f p = (i, f, p)
 split_of_none counts root recipes (w ∷ ws) k is i e f p = absurd (let g : ⊥ = (cc) in g)
 
-pub fault_of_none : (counts : Counts) (root : Justfile) (recipes : Held) (words : List (Bor Text)) (cause : Cause) → words ≡ [] → Stops counts root recipes (texts words) cause → IsFault counts root recipes (texts words) cause
+pub fault_of_none : (counts : Counts) (root : Justfile) (recipes : Held) (words : List (Bor Text)) (cause : InvocationFault) → words ≡ [] → NoInvocation counts root recipes (texts words) cause → HasWordsFault counts root recipes (texts words) cause
 fault_of_none counts root recipes words cause e p = ([], texts words, refl, inr (ap texts e), p)
 
 -- words are at least one invocation

@@ -10,8 +10,8 @@ use Rattle.just_justfile.specs.declared.justfile.Justfile.{Justfile}
 use Rattle.just_justfile.specs.Closed.{Held}
 use Rattle.just_invoke.specs.Words.{IsPathWord, has_colon, is_empty}
 use Rattle.just_invoke.specs.Meaning.{Meaning, a_module, a_recipe, disabled_recipe, disabled_alias, absent_module, nothing, meaning}
-use Rattle.just_invoke.specs.Head.{Leads, WordsLead, IsHead, PathLeads}
-use Rattle.just_invoke.specs.Split.{Counts, TakesArguments, Invoked, Invokes, Chain, IsSplit}
+use Rattle.just_invoke.specs.Head.{MeaningLeads, WordsLead, IsHead, PathLeads}
+use Rattle.just_invoke.specs.Split.{Counts, RecipeTakesArguments, Invoked, Invokes, Chain, IsSplit}
 use Rattle.just_invoke.proofs.Readings.{reading_once}
 
 -- one front, one rest and one recipe
@@ -20,7 +20,7 @@ Agree xs ys a b r s = (xs ≡ ys) × (a ≡ b) × (r ≡ s)
 
 -- a name of one meaning leads one way
 leads_step : (m : Meaning) (On Onn : Justfile → Type 0) (xs ys a b : Words) (r s : Recipe Dependency) → xs ++ a ≡ ys ++ b →
-    ((next : Justfile) → On next → Onn next → Agree xs ys a b r s) → Leads m On xs r → Leads m Onn ys s → Agree xs ys a b r s
+    ((next : Justfile) → On next → Onn next → Agree xs ys a b r s) → MeaningLeads m On xs r → MeaningLeads m Onn ys s → Agree xs ys a b r s
 leads_step (a_module next) On Onn xs ys a b r s e on p q = on next p q
 leads_step (a_recipe found) On Onn xs ys a b r s e on p q =
     (p.0 ∙ sym q.0, ap (λ t. t ++ a) (sym p.0) ∙ e ∙ ap (λ t. t ++ b) q.0, sym p.1 ∙ q.1)
@@ -80,7 +80,7 @@ invokes_once counts root recipes words a b i j p q =
     let heads = head_once root recipes p.head q.head (p.tail ++ a) (q.tail ++ b) i.recipe j.recipe (sym p.whole ∙ q.whole) p.names q.names in
     let same : i.recipe ≡ j.recipe = heads.2 in
     let tails = reading_once counts j.recipe p.tail q.tail a b i.groups j.groups heads.1
-    (subst (λ (r : Recipe Dependency). TakesArguments counts r p.tail a i.groups) same p.takes) q.takes in
+    (subst (λ (r : Recipe Dependency). RecipeTakesArguments counts r p.tail a i.groups) same p.takes) q.takes in
     let P : Recipe Dependency → List Words → Invoked = λ r g. record { recipe = r; groups = g } in
     (tails.1, ap (λ r. P r i.groups) same ∙ ap (λ g. P j.recipe g) tails.2)
 

@@ -10,28 +10,28 @@ use Rattle.just_errors.specs.declared.switch.Switch.{Switch}
 use Rattle.just_tail.specs.Cause as tail
 
 -- why words are no invocations, with the fields of the error that says it
-pub data Cause : Type 0 where
-  unknown_recipe : Text → Cause
-  unknown_submodule : Text → Cause
-  expected_submodule : Text → Cause
-  recipe_disabled : Text → List Text → Cause
-  alias_disabled : Text → List Text → Cause
-  module_absent : Text → Cause
-  no_recipes : Cause
-  no_default : Cause
-  default_requires : Text → ℕ → Cause
-  invalid_option : Text → Cause
-  unknown_option : Text → Switch → Cause
-  flag_with_value : Text → Switch → Cause
-  option_missing_value : Text → Switch → Cause
-  duplicate_option : Text → Switch → Cause
-  missing_option : Text → Switch → Cause
-  count_mismatch : Text → ℕ → ℕ → ℕ → Cause
-  value_count : Text → Text → Fault → Cause
-  pattern_mismatch : Text → Text → Text → Cause
+pub data InvocationFault : Type 0 where
+  unknown_recipe : Text → InvocationFault
+  unknown_submodule : Text → InvocationFault
+  expected_submodule : Text → InvocationFault
+  recipe_disabled : Text → List Text → InvocationFault
+  alias_disabled : Text → List Text → InvocationFault
+  module_absent : Text → InvocationFault
+  no_recipes : InvocationFault
+  no_default : InvocationFault
+  default_requires : Text → ℕ → InvocationFault
+  invalid_option : Text → InvocationFault
+  unknown_option : Text → Switch → InvocationFault
+  flag_with_value : Text → Switch → InvocationFault
+  option_missing_value : Text → Switch → InvocationFault
+  duplicate_option : Text → Switch → InvocationFault
+  missing_option : Text → Switch → InvocationFault
+  count_mismatch : Text → ℕ → ℕ → ℕ → InvocationFault
+  value_count : Text → Text → Fault → InvocationFault
+  pattern_mismatch : Text → Text → Text → InvocationFault
 
 -- the cause for which a recipe of a name takes no arguments
-abbrev pub with_recipe : Text → tail.Cause → Cause
+abbrev pub with_recipe : Text → tail.ArgumentFault → InvocationFault
 with_recipe recipe (tail.invalid_option argument) = invalid_option argument
 with_recipe recipe (tail.unknown_option switch) = unknown_option recipe switch
 with_recipe recipe (tail.duplicate_option switch) = duplicate_option recipe switch
@@ -43,7 +43,7 @@ with_recipe recipe (tail.value_count parameter told) = value_count recipe parame
 with_recipe recipe (tail.pattern_mismatch parameter argument) = pattern_mismatch recipe parameter argument
 
 -- what an error of the words says
-abbrev pub cause_of_fault : InvocationError → Cause
+abbrev pub cause_of_fault : InvocationError → InvocationFault
 cause_of_fault (fault.UnknownRecipe recipe) = unknown_recipe recipe
 cause_of_fault (fault.UnknownSubmodule path) = unknown_submodule path
 cause_of_fault (fault.ExpectedSubmoduleButFoundRecipe path) = expected_submodule path
@@ -64,7 +64,7 @@ cause_of_fault (fault.ValueCount recipe parameter told) = value_count recipe par
 cause_of_fault (fault.ArgumentPatternMismatch recipe parameter argument) = pattern_mismatch recipe parameter argument
 
 -- what an error says of the words; one that is none of the words, as want of memory, says nothing
-abbrev pub cause_of : Error → Option Cause
+abbrev pub cause_of : Error → Option InvocationFault
 cause_of (error.Load load) = None
 cause_of (error.Compile compile) = None
 cause_of (error.Invocation invocation) = Some (cause_of_fault invocation)

@@ -10,29 +10,29 @@ use Rattle.just_justfile.specs.declared.justfile.Justfile.{Justfile, out-Justfil
 use Rattle.just_justfile.specs.declared.justfile.RecipeKey.{RecipeKey}
 use Rattle.just_justfile.specs.Closed.{Held, default_recipe, name_of, path_on}
 use Rattle.just_invoke.specs.Words.{IsPathWord, has_colon, is_empty}
-use Rattle.just_invoke.specs.Cause.{Cause, unknown_recipe, unknown_submodule, expected_submodule, recipe_disabled, alias_disabled, module_absent, no_recipes, no_default, default_requires}
+use Rattle.just_invoke.specs.Cause.{InvocationFault, unknown_recipe, unknown_submodule, expected_submodule, recipe_disabled, alias_disabled, module_absent, no_recipes, no_default, default_requires}
 use Rattle.just_invoke.specs.Meaning.{Meaning, a_module, a_recipe, disabled_recipe, disabled_alias, absent_module, nothing, meaning, path_text}
-use Rattle.just_invoke.specs.declared.walking.Step.{Step}
-use Rattle.just_invoke.specs.declared.walking.Step.TheVariants as step
+use Rattle.just_invoke.specs.declared.walk.Step.{Step}
+use Rattle.just_invoke.specs.declared.walk.Step.TheVariants as step
 
 -- the module's default, which needs no argument
 abbrev pub TakesDefault : Held → Justfile → Recipe Dependency → Type 0
 TakesDefault recipes here r = (default_recipe here recipes ≡ Some r) × (least_arguments r.parameters ≡ 0)
 
 -- a name of this meaning leads to the recipe: to a module, from which the names lead on, or to the recipe itself, if no name follows
-abbrev pub Leads : Meaning → (Justfile → Type 0) → Words → Recipe Dependency → Type 0
-Leads (a_module next) On names r = On next
-Leads (a_recipe found) On names r = (names ≡ []) × (found ≡ r)
-Leads (disabled_recipe modules) On names r = ⊥
-Leads (disabled_alias modules) On names r = ⊥
-Leads absent_module On names r = ⊥
-Leads nothing On names r = ⊥
+abbrev pub MeaningLeads : Meaning → (Justfile → Type 0) → Words → Recipe Dependency → Type 0
+MeaningLeads (a_module next) On names r = On next
+MeaningLeads (a_recipe found) On names r = (names ≡ []) × (found ≡ r)
+MeaningLeads (disabled_recipe modules) On names r = ⊥
+MeaningLeads (disabled_alias modules) On names r = ⊥
+MeaningLeads absent_module On names r = ⊥
+MeaningLeads nothing On names r = ⊥
 
 -- the names lead from a module to the recipe, before the rest of the words; they may end in a module only where nothing follows them
 abbrev pub WordsLead : Justfile → Held → Justfile → Words → Words → Recipe Dependency → Type 0
 WordsLead root recipes here [] rest r = (rest ≡ []) × TakesDefault recipes here r
 WordsLead root recipes here (n ∷ ns) rest r =
-    Leads (meaning root recipes here n) (λ next. WordsLead root recipes next ns rest r) ns r
+    MeaningLeads (meaning root recipes here n) (λ next. WordsLead root recipes next ns rest r) ns r
 
 -- the word is a path that leads to the recipe
 abbrev pub PathLeads : Justfile → Held → Bool → Text → Recipe Dependency → Type 0
@@ -47,7 +47,7 @@ IsHead root recipes (w ∷ ws) rest r =
     (WordsLead root recipes root (w ∷ ws) rest r)
 
 -- why no default is taken, by the module's table and its default
-abbrev pub NoDefault : List (Text × RecipeKey) → Option (Recipe Dependency) → Cause → Type 0
+abbrev pub NoDefault : List (Text × RecipeKey) → Option (Recipe Dependency) → InvocationFault → Type 0
 NoDefault table (Some r) cause =
     ((least_arguments r.parameters ≡ 0) → ⊥) × (cause ≡ default_requires (name_of r) (least_arguments r.parameters))
 NoDefault [] None cause = cause ≡ no_recipes
@@ -58,39 +58,39 @@ abbrev pub goes_on : Bool → Words → Bool
 goes_on one names = one && not (is_empty names)
 
 -- Why a name of this meaning leads to no recipe: a module from which the names do not lead on, or the cause. `one` says that the names are one word, `go` that others of it follow, `path` are the names so far, and `place` is the name's path from the root.
-abbrev pub Misleads : Meaning → (Justfile → Type 0) → Bool → Bool → Words → Text → Cause → Type 0
-Misleads (a_module next) On one go path place cause = On next
-Misleads (a_recipe found) On one true path place cause = cause ≡ expected_submodule (text_of path false)
-Misleads (a_recipe found) On one false path place cause = ⊥
-Misleads (disabled_recipe modules) On one go path place cause = cause ≡ recipe_disabled (text_of path (not one)) modules
-Misleads (disabled_alias modules) On one go path place cause = cause ≡ alias_disabled (text_of path (not one)) modules
-Misleads absent_module On one go path place cause = cause ≡ module_absent place
-Misleads nothing On one true path place cause = cause ≡ unknown_submodule (text_of path false)
-Misleads nothing On one false path place cause = cause ≡ unknown_recipe (text_of path (not one))
+abbrev pub MeaningMisleads : Meaning → (Justfile → Type 0) → Bool → Bool → Words → Text → InvocationFault → Type 0
+MeaningMisleads (a_module next) On one go path place cause = On next
+MeaningMisleads (a_recipe found) On one true path place cause = cause ≡ expected_submodule (text_of path false)
+MeaningMisleads (a_recipe found) On one false path place cause = ⊥
+MeaningMisleads (disabled_recipe modules) On one go path place cause = cause ≡ recipe_disabled (text_of path (not one)) modules
+MeaningMisleads (disabled_alias modules) On one go path place cause = cause ≡ alias_disabled (text_of path (not one)) modules
+MeaningMisleads absent_module On one go path place cause = cause ≡ module_absent place
+MeaningMisleads nothing On one true path place cause = cause ≡ unknown_submodule (text_of path false)
+MeaningMisleads nothing On one false path place cause = cause ≡ unknown_recipe (text_of path (not one))
 
 -- a name that is no module, and leads to no recipe
-abbrev pub BadName : Meaning → Bool → Bool → Words → Text → Cause → Type 0
-BadName m = Misleads m (λ next. ⊥)
+abbrev pub BadName : Meaning → Bool → Bool → Words → Text → InvocationFault → Type 0
+BadName m = MeaningMisleads m (λ next. ⊥)
 
 -- the path of a name in a module, from the root
 abbrev pub place_of : Justfile → Text → Text
 place_of here name = path_text (path_on (out-Justfile here).module_path name)
 
 -- why the names lead from a module to no recipe, after those of `path`; `one` says that they are one word
-abbrev pub WordsMislead : Justfile → Held → Justfile → Bool → Words → Words → Cause → Type 0
+abbrev pub WordsMislead : Justfile → Held → Justfile → Bool → Words → Words → InvocationFault → Type 0
 WordsMislead root recipes here one path [] cause = NoDefault (out-Justfile here).recipes (default_recipe here recipes) cause
 WordsMislead root recipes here one path (n ∷ ns) cause =
-    Misleads (meaning root recipes here n) (λ next. WordsMislead root recipes next one (path ++ n ∷ []) ns cause)
+    MeaningMisleads (meaning root recipes here n) (λ next. WordsMislead root recipes next one (path ++ n ∷ []) ns cause)
     one (goes_on one ns) (path ++ n ∷ []) (place_of here n) cause
 
 -- why the word is no path to a recipe
-abbrev pub NoPath : Justfile → Held → Bool → Text → Cause → Type 0
+abbrev pub NoPath : Justfile → Held → Bool → Text → InvocationFault → Type 0
 NoPath root recipes last word cause =
     (((names : Words) → IsPathWord last word names → ⊥) × (cause ≡ unknown_recipe word))
     ⊎ ((names : Words) × IsPathWord last word names × WordsMislead root recipes root true [] names cause)
 
 -- why the words begin with no head
-abbrev pub NoHead : Justfile → Held → Words → Cause → Type 0
+abbrev pub NoHead : Justfile → Held → Words → InvocationFault → Type 0
 NoHead root recipes [] cause = WordsMislead root recipes root false [] [] cause
 NoHead root recipes (w ∷ ws) cause =
     MatchBool (has_colon w)
@@ -107,6 +107,6 @@ abbrev pub IsEnd : Held → Step → Recipe Dependency → Type 0
 IsEnd recipes (step.On here) r = TakesDefault recipes here.now r
 IsEnd recipes (step.End found) r = r ≡ found.now
 
-abbrev pub IsNoEnd : Held → Step → Cause → Type 0
+abbrev pub IsNoEnd : Held → Step → InvocationFault → Type 0
 IsNoEnd recipes (step.On here) cause = NoDefault (out-Justfile here.now).recipes (default_recipe here.now recipes) cause
 IsNoEnd recipes (step.End found) cause = ⊥

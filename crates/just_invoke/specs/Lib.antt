@@ -1,5 +1,5 @@
 pub mod Cause
-pub mod Going
+pub mod Results
 pub mod Head
 pub mod Meaning
 pub mod Outcome

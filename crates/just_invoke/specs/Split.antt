@@ -10,7 +10,7 @@ use Rattle.just_tail.specs.Words.{Words, shown}
 use Rattle.just_justfile.specs.Closed.{Held, name_of}
 use Rattle.just_justfile.specs.declared.justfile.Justfile.{Justfile}
 use Rattle.just_invoke.specs.declared.invocation.Invocation.{Invocation}
-use Rattle.just_invoke.specs.Cause.{Cause, with_recipe}
+use Rattle.just_invoke.specs.Cause.{InvocationFault, with_recipe}
 use Rattle.just_invoke.specs.Head.{IsHead, NoHead}
 
 -- why the parameters of the recipe of a name may not have so many texts, as the evaluation says it
@@ -18,12 +18,12 @@ abbrev pub Counts : Type 0
 Counts = Text → CountFault
 
 -- the recipe takes the words of the tail, grouped so, before those after it
-abbrev pub TakesArguments : Counts → Recipe Dependency → Words → Words → List Words → Type 0
-TakesArguments counts r tail after groups = checks.TakesArguments (counts (name_of r)) r.parameters tail after groups
+abbrev pub RecipeTakesArguments : Counts → Recipe Dependency → Words → Words → List Words → Type 0
+RecipeTakesArguments counts r tail after groups = checks.TakesArguments (counts (name_of r)) r.parameters tail after groups
 
 -- why it takes none of the words
-abbrev pub NoArguments : Counts → Recipe Dependency → Words → tail.Cause → Type 0
-NoArguments counts r words cause = checks.Stops (counts (name_of r)) r.parameters words cause
+abbrev pub NoArguments : Counts → Recipe Dependency → Words → tail.ArgumentFault → Type 0
+NoArguments counts r words cause = checks.StopsTail (counts (name_of r)) r.parameters words cause
 
 -- a recipe, with a group of words for each parameter
 pub record Invoked : Type 0 where
@@ -40,7 +40,7 @@ pub record Invokes (counts : Counts) (root : Justfile) (recipes : Held) (words a
   pub tail : Words
   pub whole : words ≡ head ++ (tail ++ after)
   pub names : IsHead root recipes head (tail ++ after) i.recipe
-  pub takes : TakesArguments counts i.recipe tail after i.groups
+  pub takes : RecipeTakesArguments counts i.recipe tail after i.groups
 
 -- invocations, one after another, and the words that are left
 abbrev pub Chain : Counts → Justfile → Held → Words → List Invoked → Words → Type 0
@@ -54,21 +54,21 @@ IsSplit counts root recipes [] is = (i : Invoked) × (is ≡ i ∷ []) × Invoke
 IsSplit counts root recipes (w ∷ ws) is = Chain counts root recipes (w ∷ ws) is []
 
 -- the words begin with a head, after which its recipe takes no arguments
-pub record Rejects (counts : Counts) (root : Justfile) (recipes : Held) (words : Words) (cause : Cause) : Type 0 where
+pub record Rejects (counts : Counts) (root : Justfile) (recipes : Held) (words : Words) (cause : InvocationFault) : Type 0 where
   pub recipe : Recipe Dependency
   pub head : Words
   pub rest : Words
-  pub why : tail.Cause
+  pub why : tail.ArgumentFault
   pub whole : words ≡ head ++ rest
   pub names : IsHead root recipes head rest recipe
   pub stops : NoArguments counts recipe rest why
   pub says : cause ≡ with_recipe (name_of recipe) why
 
 -- why no invocation begins here
-abbrev pub Stops : Counts → Justfile → Held → Words → Cause → Type 0
-Stops counts root recipes words cause = NoHead root recipes words cause ⊎ Rejects counts root recipes words cause
+abbrev pub NoInvocation : Counts → Justfile → Held → Words → InvocationFault → Type 0
+NoInvocation counts root recipes words cause = NoHead root recipes words cause ⊎ Rejects counts root recipes words cause
 
 -- why the words are no invocations: some of them are, and then none begins
-abbrev pub IsFault : Counts → Justfile → Held → Words → Cause → Type 0
-IsFault counts root recipes words cause =
-    (is : List Invoked) × (rest : Words) × Chain counts root recipes words is rest × ((rest ≢ []) ⊎ (words ≡ [])) × Stops counts root recipes rest cause
+abbrev pub HasWordsFault : Counts → Justfile → Held → Words → InvocationFault → Type 0
+HasWordsFault counts root recipes words cause =
+    (is : List Invoked) × (rest : Words) × Chain counts root recipes words is rest × ((rest ≢ []) ⊎ (words ≡ [])) × NoInvocation counts root recipes rest cause

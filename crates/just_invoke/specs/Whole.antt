@@ -2,41 +2,41 @@
 use Rattle.std.specs.Prelude.{◌≡◌, List, length, Option, Result, Ok}
 use Rattle.just_errors.specs.Halts.{without}
 use Rattle.just_errors.specs.declared.halt.Halt.{Halt}
-use Rattle.just_execution.specs.Leaves.{leaves_of}
+use Rattle.just_execution.specs.TaskInteractions.{interactions_of}
 use Rattle.just_execution.specs.Reports.{expected_steps}
-use Rattle.just_execution.specs.Run.{IsEven}
-use Rattle.just_execution.specs.declared.running.Report.{Report}
+use Rattle.just_execution.specs.Run.{PriorsIgnoreFlag}
+use Rattle.just_execution.specs.declared.run.Report.{Report}
 use Rattle.just_execution.specs.declared.task.Task.{Task}
 use Rattle.just_justfile.specs.declared.justfile.Justfile.{Justfile}
 use Rattle.just_recipe.specs.declared.dependency.Dependency.{Dependency}
 use Rattle.just_recipe.specs.declared.recipe.Recipe.{Recipe}
 use Rattle.just_run_layers.specs.Evaluation.{Inquiry}
 use Rattle.just_run_layers.specs.Host.{Answer}
-use Rattle.just_run_layers.specs.Steps.{Follows, IsSteady, Kept, Question, Steps, and_then, both, executed_in, outcome, path}
+use Rattle.just_run_layers.specs.Interactions.{IsTraceOrPrefix, ArePromised, Log, Question, Interaction, and_then, both, executed_in, result_under, trace_under}
 use Rattle.just_run_layers.specs.declared.host.Entry.{Entry}
-use Rattle.just_scopes.specs.Need.{AreNeeds, Sets}
-use Rattle.just_scopes.specs.Open.{AreOpen, Opens}
+use Rattle.just_scopes.specs.Need.{AreNeeds, NumberSets}
+use Rattle.just_scopes.specs.Open.{AreOpenModules, Opens}
 use Rattle.just_scopes.specs.Opening.{Front, Opened, all_opened, scene_of}
 use Rattle.just_scopes.specs.Preorder.{IsPreorder, Placed}
 
 -- For every host: the modules were opened for tasks, in which nothing was executed; whatever a recipe reads to which the tasks lead has its value.
-pub record HasOpened (evaluator : Inquiry → Option Answer) (host : Entry → Option Answer) (front : Front) (root : Justfile) (recipes : List (Recipe Dependency)) (ts : List Task) (old mid : Kept) (opened : List Opened) : Type 0 where
+pub record HasOpened (evaluator : Inquiry → Option Answer) (host : Entry → Option Answer) (front : Front) (root : Justfile) (recipes : List (Recipe Dependency)) (ts : List Task) (old mid : Log) (opened : List Opened) : Type 0 where
   pub steps : Opens evaluator host front root recipes ts old mid (Ok opened)
-  pub are : AreOpen front.syntax root recipes ts opened
+  pub are : AreOpenModules front.syntax root recipes ts opened
   pub unexecuted : executed_in mid ≡ executed_in old
 
 -- the whole run under answers f, by sets of what is needed and the modules in order
-abbrev pub whole_steps : Sets → Front → List (Recipe Dependency) → List Placed → (Question → Answer) → List Task → Steps (Unit {0})
+abbrev pub whole_steps : NumberSets → Front → List (Recipe Dependency) → List Placed → (Question → Answer) → List Task → Interaction (Unit {0})
 whole_steps sets front recipes ps f ts = and_then (all_opened sets front.handed ps) (λ opened. expected_steps (scene_of front recipes opened) f ts)
 
 -- in the scene to which the answers lead, priors do not hang on how a task is called
-abbrev pub IsEvenIn : Sets → Front → List (Recipe Dependency) → List Placed → (Question → Answer) → List Task → Type 0
-IsEvenIn sets front recipes ps f ts =
-    (opened : List Opened) → outcome f (all_opened sets front.handed ps) ≡ Ok opened → IsEven (leaves_of (scene_of front recipes opened)) f (length (scene_of front recipes opened).recipes) ts
+abbrev pub PriorsIgnoreFlagIn : NumberSets → Front → List (Recipe Dependency) → List Placed → (Question → Answer) → List Task → Type 0
+PriorsIgnoreFlagIn sets front recipes ps f ts =
+    (opened : List Opened) → result_under f (all_opened sets front.handed ps) ≡ Ok opened → PriorsIgnoreFlag (interactions_of (scene_of front recipes opened)) f (length (scene_of front recipes opened).recipes) ts
 
 -- For promised answers: where the answers f are promised to all that the whole run asks, exactly that run is made, up to its first failing step; where memory or a number is refused, a beginning of it.
-abbrev pub IsWholeRun : (Inquiry → Option Answer) → (Entry → Option Answer) → Front → Justfile → List (Recipe Dependency) → List Task → Kept → Kept → Result Report Halt → Type 0
+abbrev pub IsWholeRun : (Inquiry → Option Answer) → (Entry → Option Answer) → Front → Justfile → List (Recipe Dependency) → List Task → Log → Log → Result Report Halt → Type 0
 IsWholeRun evaluator host front root recipes ts old new ended =
-    (sets : Sets) → AreNeeds front.syntax root recipes ts sets → (ps : List Placed) → IsPreorder root ps → (f : Question → Answer) →
-    IsSteady (both evaluator host) f (path f (whole_steps sets front recipes ps f ts)) → IsEvenIn sets front recipes ps f ts →
-    Follows (path f (whole_steps sets front recipes ps f ts)) (outcome f (whole_steps sets front recipes ps f ts)) old new (without ended)
+    (sets : NumberSets) → AreNeeds front.syntax root recipes ts sets → (ps : List Placed) → IsPreorder root ps → (f : Question → Answer) →
+    ArePromised (both evaluator host) f (trace_under f (whole_steps sets front recipes ps f ts)) → PriorsIgnoreFlagIn sets front recipes ps f ts →
+    IsTraceOrPrefix (trace_under f (whole_steps sets front recipes ps f ts)) (result_under f (whole_steps sets front recipes ps f ts)) old new (without ended)

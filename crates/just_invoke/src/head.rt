@@ -1,12 +1,12 @@
 //! The front of the words that names a recipe.
 ghost use Rattle.std.specs.Prelude.{◌≡◌, ◌≤◌, ◌<◌, [], true, IfOk, IfErr, IfSome, length, take, drop};
 ghost use Rattle.just_names.specs.Texts.{texts};
-ghost use Rattle.just_justfile.specs.Walks.{IsOrdered};
+ghost use Rattle.just_justfile.specs.Walks.{AreModulesOrdered};
 ghost use Rattle.just_invoke.specs.Cause.{cause_of, IsOfWords};
 ghost use Rattle.just_invoke.specs.Head.{WordsLead, WordsMislead, PathLeads, NoPath, IsHead, NoHead};
 
 use crate::paths::{as_words, contains_colon, path_word};
-use crate::walking::walk;
+use crate::walk::walk;
 use just_data::Text;
 use just_justfile::Justfile;
 use just_parts::Recipe;
@@ -21,7 +21,7 @@ fn walk_path<'run, 'src>(
     recipes: &'run Recipes<'src>,
     names: &[&str],
 ) -> Result<&'run Recipe<'src>, Error<'src>>
-    requires { IsOrdered root.now }
+    requires { AreModulesOrdered root.now }
     ensures ok { IfOk result (λ r. WordsLead root.now recipes.now root.now (texts names.now) [] r.now) }
     ensures err { IfErr result (λ e. IfSome (cause_of e) (WordsMislead root.now recipes.now root.now true [] (texts names.now))) }
     ensures words { IfErr result (λ e. IsOfWords e) }
@@ -40,7 +40,7 @@ fn parse_path<'run, 'src>(
     word: &str,
     last: bool,
 ) -> Result<&'run Recipe<'src>, Error<'src>>
-    requires { IsOrdered root.now }
+    requires { AreModulesOrdered root.now }
     ensures ok { IfOk result (λ r. PathLeads root.now recipes.now last word.now r.now) }
     ensures err { IfErr result (λ e. IfSome (cause_of e) (NoPath root.now recipes.now last word.now)) }
     ensures words { IfErr result (λ e. IsOfWords e) }
@@ -66,7 +66,7 @@ pub(crate) fn parse_head<'run, 'src>(
     recipes: &'run Recipes<'src>,
     words: &[&str],
 ) -> Result<(&'run Recipe<'src>, usize), Error<'src>>
-    requires { IsOrdered root.now }
+    requires { AreModulesOrdered root.now }
     ensures within { IfOk result (λ found. found.1 ≤ length words.now) }
     ensures moves { IfOk result (λ found. 0 < length words.now → 0 < found.1) }
     ensures ok { IfOk result (λ found. IsHead root.now recipes.now (texts (take found.1 words.now)) (texts (drop found.1 words.now)) found.0.now) }

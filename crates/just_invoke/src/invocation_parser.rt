@@ -6,13 +6,13 @@ ghost use Rattle.just_parts.specs.Evaluator.{count_fault_of};
 ghost use Rattle.just_tail.specs.Cause as tail;
 ghost use Rattle.just_tail.specs.Words.{shown};
 ghost use Rattle.just_justfile.specs.Closed.{IsHeld, name_of};
-ghost use Rattle.just_justfile.specs.Walks.{IsOrdered};
+ghost use Rattle.just_justfile.specs.Walks.{AreModulesOrdered};
 ghost use Rattle.just_invoke.specs.Cause.{cause_of, with_recipe, IsOfWords};
-ghost use Rattle.just_invoke.specs.Split.{TakesArguments, NoArguments, invoked_of, Invokes, Chain, IsSplit, Stops, IsFault};
+ghost use Rattle.just_invoke.specs.Split.{RecipeTakesArguments, NoArguments, invoked_of, Invokes, Chain, IsSplit, NoInvocation, HasWordsFault};
 
 use crate::head::parse_head;
 use crate::invocation::Invocation;
-use crate::walking::after;
+use crate::walk::after;
 use just_data::BorrowedText;
 use just_justfile::Justfile;
 use just_parts::Recipe;
@@ -40,11 +40,12 @@ impl InvocationParser {
         evaluation: &E,
         words: &[&'words str],
     ) -> Result<Vec<Invocation<'run, 'src, 'words>>, Error<'src>>
-        requires { IsOrdered root.now }
+        requires { AreModulesOrdered root.now }
         ensures split { let splits = IsSplit (count_fault_of (E.answers evaluation.now)) root.now recipes.now (texts words.now) in
             IfOk result (λ found. splits (map invoked_of found.items)) }
         ensures held { IfOk result (λ found. All (λ i. IsHeld recipes.now i.recipe.now) found.items) }
-        ensures fault { IfErr result (λ e. IfSome (cause_of e) (IsFault (count_fault_of (E.answers evaluation.now)) root.now recipes.now (texts words.now))) }
+        ensures fault { let counts = count_fault_of (E.answers evaluation.now) in
+            IfErr result (λ e. IfSome (cause_of e) (HasWordsFault counts root.now recipes.now (texts words.now))) }
         ensures words { IfErr result (λ e. IsOfWords e) }
     {
         if words.is_empty() {
@@ -105,7 +106,7 @@ fn take_tail<'src, 'words, E: ConstantEvaluation>(
     words: &[&'words str],
 ) -> Result<Tail<'words>, TailError<'src>>
     ensures within { IfOk result (λ t. t.taken ≤ length words.now) }
-    ensures ok { let takes = TakesArguments (count_fault_of (E.answers evaluation.now)) recipe.now in
+    ensures ok { let takes = RecipeTakesArguments (count_fault_of (E.answers evaluation.now)) recipe.now in
         IfOk result (λ t. takes (texts (take t.taken words.now)) (texts (drop t.taken words.now)) (shown t.groups.items)) }
     ensures err { IfErr result (λ e. IfSome (tail.cause_of e) (NoArguments (count_fault_of (E.answers evaluation.now)) recipe.now (texts words.now))) }
 {
@@ -126,12 +127,12 @@ fn parse_invocation<'run, 'src, 'words, E: ConstantEvaluation>(
     evaluation: &E,
     words: &[&'words str],
 ) -> Result<(Invocation<'run, 'src, 'words>, usize), Error<'src>>
-    requires { IsOrdered root.now }
+    requires { AreModulesOrdered root.now }
     ensures within { IfOk result (λ found. found.1 ≤ length words.now) }
     ensures moves { IfOk result (λ found. 0 < length words.now → 0 < found.1) }
     ensures ok { let invokes = Invokes (count_fault_of (E.answers evaluation.now)) root.now recipes.now (texts words.now) in
         IfOk result (λ found. invokes (texts (drop found.1 words.now)) (invoked_of found.0)) }
-    ensures err { IfErr result (λ e. IfSome (cause_of e) (Stops (count_fault_of (E.answers evaluation.now)) root.now recipes.now (texts words.now))) }
+    ensures err { IfErr result (λ e. IfSome (cause_of e) (NoInvocation (count_fault_of (E.answers evaluation.now)) root.now recipes.now (texts words.now))) }
     ensures words { IfErr result (λ e. IsOfWords e) }
 {
     let (recipe, named) = match parse_head(alloc, root, recipes, words) {
@@ -160,11 +161,12 @@ fn parse_none<'run, 'src, 'words, E: ConstantEvaluation>(
     evaluation: &E,
     words: &[&'words str],
 ) -> Result<Vec<Invocation<'run, 'src, 'words>>, Error<'src>>
-    requires root { IsOrdered root.now }
+    requires root { AreModulesOrdered root.now }
     requires none { words.now ≡ [] }
     ensures split { let splits = IsSplit (count_fault_of (E.answers evaluation.now)) root.now recipes.now (texts words.now) in
         IfOk result (λ found. splits (map invoked_of found.items)) }
-    ensures fault { IfErr result (λ e. IfSome (cause_of e) (IsFault (count_fault_of (E.answers evaluation.now)) root.now recipes.now (texts words.now))) }
+    ensures fault { let counts = count_fault_of (E.answers evaluation.now) in
+        IfErr result (λ e. IfSome (cause_of e) (HasWordsFault counts root.now recipes.now (texts words.now))) }
     ensures words { IfErr result (λ e. IsOfWords e) }
 {
     match parse_invocation(alloc, root, recipes, evaluation, words) {
@@ -185,11 +187,12 @@ fn parse_some<'run, 'src, 'words, E: ConstantEvaluation>(
     evaluation: &E,
     words: &[&'words str],
 ) -> Result<Vec<Invocation<'run, 'src, 'words>>, Error<'src>>
-    requires root { IsOrdered root.now }
+    requires root { AreModulesOrdered root.now }
     requires some { 0 < length words.now }
     ensures chain { let chain = Chain (count_fault_of (E.answers evaluation.now)) root.now recipes.now (texts words.now) in
         IfOk result (λ found. chain (map invoked_of found.items) []) }
-    ensures fault { IfErr result (λ e. IfSome (cause_of e) (IsFault (count_fault_of (E.answers evaluation.now)) root.now recipes.now (texts words.now))) }
+    ensures fault { let counts = count_fault_of (E.answers evaluation.now) in
+        IfErr result (λ e. IfSome (cause_of e) (HasWordsFault counts root.now recipes.now (texts words.now))) }
     ensures words { IfErr result (λ e. IsOfWords e) }
 {
     let mut invocations = Vec::new(alloc);

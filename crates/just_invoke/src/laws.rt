@@ -2,11 +2,11 @@
 ghost use Rattle.std.specs.Prelude.{◌≡◌, ◌≢◌, ◌<◌, ◌⊎◌, List, [], length, IsUtf8};
 ghost use Rattle.std.specs.List.{All, AllByRecursion};
 ghost use Rattle.just_run_layers.specs.Host.{Answer, KeepsPromises};
-ghost use Rattle.just_run_layers.specs.Steps.{Question, IsSteady};
-ghost use Rattle.just_invoke.specs.Cause.{Cause};
+ghost use Rattle.just_run_layers.specs.Interactions.{Question, ArePromised};
+ghost use Rattle.just_invoke.specs.Cause.{InvocationFault};
 ghost use Rattle.just_tail.specs.Words.{Words};
 ghost use Rattle.just_justfile.specs.Closed.{Held, IsHeld};
-ghost use Rattle.just_invoke.specs.Split.{Counts, Invoked, Invokes, IsSplit, IsFault};
+ghost use Rattle.just_invoke.specs.Split.{Counts, Invoked, Invokes, IsSplit, HasWordsFault};
 ghost use Rattle.just_justfile.specs.declared.justfile.Justfile.{Justfile};
 
 /// Words are invocations in at most one way.
@@ -22,20 +22,20 @@ pub fn no_words_are_one()
 
 /// Words that are invocations have no fault.
 pub fn no_fault()
-    ensures { (counts : Counts) (root : Justfile) (recipes : Held) (words : Words) (a : List Invoked) (c : Cause) →
-        IsSplit counts root recipes words a → IsFault counts root recipes words c → ⊥ }
+    ensures { (counts : Counts) (root : Justfile) (recipes : Held) (words : Words) (a : List Invoked) (c : InvocationFault) →
+        IsSplit counts root recipes words a → HasWordsFault counts root recipes words c → ⊥ }
 {}
 
 /// Words have at most one fault.
 pub fn one_fault()
-    ensures { (counts : Counts) (root : Justfile) (recipes : Held) (words : Words) (a b : Cause) →
-        IsFault counts root recipes words a → IsFault counts root recipes words b → a ≡ b }
+    ensures { (counts : Counts) (root : Justfile) (recipes : Held) (words : Words) (a b : InvocationFault) →
+        HasWordsFault counts root recipes words a → HasWordsFault counts root recipes words b → a ≡ b }
 {}
 
 /// Texts as words are invocations, or have a fault.
 pub fn split_or_fault()
     ensures { (counts : Counts) (root : Justfile) (recipes : Held) (words : Words) → AllByRecursion IsUtf8 words
-        → ((is : List Invoked) × IsSplit counts root recipes words is) ⊎ ((c : Cause) × IsFault counts root recipes words c) }
+        → ((is : List Invoked) × IsSplit counts root recipes words is) ⊎ ((c : InvocationFault) × HasWordsFault counts root recipes words c) }
 {}
 
 /// An invocation with which some words begin takes at least one of them.
@@ -52,5 +52,5 @@ pub fn holds_recipes()
 
 /// Answers that are promised to some questions stay so while promises are kept, as they are in a run.
 pub fn stays_steady()
-    ensures { (old new : _) (f : Question → Answer) (asked : List Question) → KeepsPromises old new → IsSteady old f asked → IsSteady new f asked }
+    ensures { (old new : _) (f : Question → Answer) (asked : List Question) → KeepsPromises old new → ArePromised old f asked → ArePromised new f asked }
 {}

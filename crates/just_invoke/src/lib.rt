@@ -7,12 +7,12 @@ mod invocation;
 pub mod invocation_parser;
 pub mod laws;
 mod lookup;
-mod naming;
+mod open_run;
 mod paths;
 pub mod run;
-mod running;
 mod texts;
-mod walking;
+mod tops;
+mod walk;
 
 pub use invocation::Invocation;
 pub use invocation_parser::InvocationParser;

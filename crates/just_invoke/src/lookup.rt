@@ -1,7 +1,7 @@
 //! What a name means in a module.
 ghost use Rattle.std.specs.Prelude.{◌≡◌, option_map};
 ghost use Rattle.std.specs.Option.{option_copied};
-ghost use Rattle.just_justfile.specs.Walks.{IsOrdered};
+ghost use Rattle.just_justfile.specs.Walks.{AreModulesOrdered};
 ghost use Rattle.just_justfile.specs.declared.justfile.Justfile.{out-Justfile};
 ghost use Rattle.just_invoke.specs.Meaning.{aliased_module, disabling, meaning, meaning_of, path_texts};
 
@@ -35,7 +35,7 @@ fn aliased_module<'run, 'src>(
     here: &Justfile<'src>,
     name: &str,
 ) -> Option<&'run Justfile<'src>>
-    requires { IsOrdered root.now }
+    requires { AreModulesOrdered root.now }
     ensures { option_copied result ≡ aliased_module root.now here.now name.now }
 {
     match here.aliases.modules.get(name) {
@@ -65,8 +65,8 @@ pub(crate) fn look_up<'run, 'src>(
     here: &'run Justfile<'src>,
     name: &str,
 ) -> Found<'run, 'src>
-    requires root { IsOrdered root.now }
-    requires here { IsOrdered here.now }
+    requires root { AreModulesOrdered root.now }
+    requires here { AreModulesOrdered here.now }
     ensures { meaning_of result ≡ meaning root.now recipes.now here.now name.now }
 {
     if let Some(module) = find_module(here.modules.as_slice(), name) {

@@ -5,7 +5,7 @@ ghost use Rattle.just_invoke.specs.Outcome.{IsExcess};
 
 use crate::invocation::Invocation;
 use crate::invocation_parser::InvocationParser;
-use crate::running::run_invocations;
+use crate::open_run::run_invocations;
 use just_data::Text;
 use just_execution::Report;
 use just_justfile::Justfile;
@@ -37,10 +37,10 @@ pub trait Run<'src> {
     ghost use Rattle.just_parts.specs.Evaluator.{count_fault_of};
     ghost use Rattle.just_run_layers.specs.Host.{KeepsPromises};
     ghost use Rattle.just_run_layers.specs.LineTexts.{AgreesWith};
-    ghost use Rattle.just_run_layers.specs.Steps.{kept_by};
+    ghost use Rattle.just_run_layers.specs.Interactions.{log_of};
     ghost use Rattle.just_names.specs.Texts.{texts};
     ghost use Rattle.just_justfile.specs.Running.{CanRun, HoldsOverridden, TellsBareLines};
-    ghost use Rattle.just_invoke.specs.Outcome.{IsExpected, IsOutcome};
+    ghost use Rattle.just_invoke.specs.Outcome.{RunsAsExpected, IsOutcome};
     ghost use Rattle.just_scopes.specs.Opening.{front_of};
 
     /// The module that is run.
@@ -83,18 +83,18 @@ pub trait Run<'src> {
         ensures keeps_host { KeepsPromises (H.promised host.old) (H.promised host.new) }
         // For every host.
         ensures outcome { let counts = count_fault_of (E.answers evaluation.old) in
-            let first = kept_by (H.entries host.old) (E.requests evaluation.old) in
-            let last = kept_by (H.entries host.new) (E.requests evaluation.new) in
+            let first = log_of (H.entries host.old) (E.requests evaluation.old) in
+            let last = log_of (H.entries host.new) (E.requests evaluation.new) in
             let front = front_of (S.answers syntax.now) config.now overrides.now in
             let outcome = IsOutcome counts (root self.now) recipes.now (texts words.now) config.now front (E.promised evaluation.old) (H.promised host.old) in
             outcome first last result }
         // For promised answers.
         ensures expected { let counts = count_fault_of (E.answers evaluation.old) in
             let front = front_of (S.answers syntax.now) config.now overrides.now in
-            let expected = IsExpected counts (root self.now) recipes.now (texts words.now) config.now front (E.promised evaluation.old) (H.promised host.old) in
-            let first = kept_by (H.entries host.old) (E.requests evaluation.old) in
-            let last = kept_by (H.entries host.new) (E.requests evaluation.new) in
-            expected first last result }
+            let run = RunsAsExpected counts (root self.now) recipes.now (texts words.now) config.now front (E.promised evaluation.old) (H.promised host.old) in
+            let first = log_of (H.entries host.old) (E.requests evaluation.old) in
+            let last = log_of (H.entries host.new) (E.requests evaluation.new) in
+            run first last result }
         // The writer is left as it was.
         ensures unwritten { W.written writer.new ≡ W.written writer.old }
         ensures unfailed { W.failed writer.new ≡ W.failed writer.old };

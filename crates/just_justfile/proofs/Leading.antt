@@ -20,7 +20,7 @@ use Rattle.just_justfile.specs.declared.justfile.Justfile.{Justfile, out-Justfil
 use Rattle.just_justfile.specs.declared.justfile.RecipeKey.{RecipeKey}
 use Rattle.just_justfile.specs.declared.resolution.Resolution.{Resolution}
 use Rattle.just_justfile.specs.declared.resolution.Resolution.TheVariants as resolution
-use Rattle.just_justfile.specs.Walks.{Absent, AreOrdered, End, Here, Inside, IsOrdered, Nowhere, beyond, end_from, end_of, inner_along, inner_ordered, module_named, recipe_at, recipe_by, recipe_from}
+use Rattle.just_justfile.specs.Walks.{Absent, AreOrdered, End, Here, Inside, AreModulesOrdered, Nowhere, beyond, end_from, end_of, inner_along, inner_ordered, module_named, recipe_at, recipe_by, recipe_from}
 use Rattle.std.proofs.lemmas.List.Elements.{Contains-append_left, Contains-append_right, Contains-push}
 
 found_by : (b : Bool) (x j : Justfile) (rest : Option Justfile) (xs : List Justfile) → cond b (Some x) rest ≡ Some j → (rest ≡ Some j → Contains xs j) → Contains (x ∷ xs) j
@@ -33,10 +33,10 @@ named_there name [] j e = cc
 named_there name (x ∷ modules) j e = found_by (bytes_eq (module_name x) name) x j (module_named name modules) modules e (named_there name modules j)
 
 -- and the names of those in it rise
-pub named_ordered : (name : Text) (modules : List Justfile) (j : Justfile) → AreOrdered modules → module_named name modules ≡ Some j → IsOrdered j
+pub named_ordered : (name : Text) (modules : List Justfile) (j : Justfile) → AreOrdered modules → module_named name modules ≡ Some j → AreModulesOrdered j
 named_ordered name modules j order e = inner_ordered order j (named_there name modules j e)
 
-pub found_ordered : (name : Text) (modules : List Justfile) (o : Option (Bor Justfile)) → AreOrdered modules → option_copied o ≡ module_named name modules → IfSome o (λ j. IsOrdered j.now)
+pub found_ordered : (name : Text) (modules : List Justfile) (o : Option (Bor Justfile)) → AreOrdered modules → option_copied o ≡ module_named name modules → IfSome o (λ j. AreModulesOrdered j.now)
 found_ordered name modules None order e = tt
 found_ordered name modules (Some j) order e = named_ordered name modules j.now order (sym e)
 
@@ -102,16 +102,16 @@ unfolding next_along next_end
 walked_next root j name names ih None g = absurd (absent_end (is_some (find name (out-Justfile root).absent_modules)) (name ∷ []) j g)
 walked_next root j name names ih (Some inner) g = walked_below j inner name names (end_from inner names) (ih inner) refl g
 
-ordered_below : (name : Text) (names : List Text) (inner j : Justfile) → IsOrdered inner → (end_from inner names ≡ Inside j → IsOrdered j)
-    → (end : End) → end_from inner names ≡ end → beyond name inner end ≡ Inside j → IsOrdered j
-ordered_below name names inner j order ih Here f g = let same : inner ≡ j = cc in subst IsOrdered same order
+ordered_below : (name : Text) (names : List Text) (inner j : Justfile) → AreModulesOrdered inner → (end_from inner names ≡ Inside j → AreModulesOrdered j)
+    → (end : End) → end_from inner names ≡ end → beyond name inner end ≡ Inside j → AreModulesOrdered j
+ordered_below name names inner j order ih Here f g = let same : inner ≡ j = cc in subst AreModulesOrdered same order
 ordered_below name names inner j order ih (Inside k) f g = ih (f ∙ g)
 ordered_below name names inner j order ih (Absent xs) f g = cc
 ordered_below name names inner j order ih Nowhere f g = cc
 
 ordered_next : (name : Text) (names : List Text) (absent : List (Text × Text)) (modules : List Justfile) (j : Justfile) → AreOrdered modules
-    → ((inner : Justfile) → IsOrdered inner → end_from inner names ≡ Inside j → IsOrdered j)
-    → (found : Option Justfile) → module_named name modules ≡ found → next_end names name absent found ≡ Inside j → IsOrdered j
+    → ((inner : Justfile) → AreModulesOrdered inner → end_from inner names ≡ Inside j → AreModulesOrdered j)
+    → (found : Option Justfile) → module_named name modules ≡ found → next_end names name absent found ≡ Inside j → AreModulesOrdered j
 unfolding next_end
 ordered_next name names absent modules j order ih None f g = absurd (absent_end (is_some (find name absent)) (name ∷ []) j g)
 ordered_next name names absent modules j order ih (Some inner) f g =
@@ -119,7 +119,7 @@ ordered_next name names absent modules j order ih (Some inner) f g =
     ordered_below name names inner j below (ih inner below) (end_from inner names) refl g
 
 -- the names of the modules in one into which a walk leads rise
-pub end_ordered : (names : List Text) (absent : List (Text × Text)) (modules : List Justfile) (j : Justfile) → AreOrdered modules → end_of absent modules names ≡ Inside j → IsOrdered j
+pub end_ordered : (names : List Text) (absent : List (Text × Text)) (modules : List Justfile) (j : Justfile) → AreOrdered modules → end_of absent modules names ≡ Inside j → AreModulesOrdered j
 unfolding next_end
 end_ordered [] absent modules j order e = cc
 end_ordered (name ∷ names) absent modules j order e =

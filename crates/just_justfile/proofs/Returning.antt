@@ -2,7 +2,7 @@
 use Rattle.std.proofs.Common.{◌≡◌, ◌∙◌, List, [], ◌∷◌, ◌++◌, Option, None, Some, refl, sym, ap}
 use Rattle.std.specs.List.{Contains}
 use Rattle.std.proofs.lemmas.List.{append-nil, append_assoc}
-use Rattle.just_justfile.specs.Closed.{AreClosed, HaveNames, StandsIn, have_names, inner_closed, inside, itself}
+use Rattle.just_justfile.specs.Closed.{AreClosed, HaveInnerNames, StandsIn, have_names, inner_closed, inside, itself}
 use Rattle.just_justfile.specs.Module.{module_name}
 use Rattle.just_justfile.specs.Walks.{inner_along}
 use Rattle.just_justfile.specs.declared.justfile.Justfile.{Justfile, out-Justfile}
@@ -25,7 +25,7 @@ pub record IsBelow (root j : Justfile) : Type 0 where
   pub path : (out-Justfile j).module_path.components ≡ (out-Justfile root).module_path.components ++ names
   pub found : inner_along root names ≡ Some j
 
-further : (root inner j : Justfile) → HaveNames root → Contains (out-Justfile root).modules inner → IsBelow inner j → IsBelow root j
+further : (root inner j : Justfile) → HaveInnerNames root → Contains (out-Justfile root).modules inner → IsBelow inner j → IsBelow root j
 unfolding next_by
 further root inner j names c below = record {
   names = module_name inner ∷ below.names;

@@ -10,7 +10,7 @@ use Rattle.just_paths.specs.declared.modulepath.Modulepath.{Modulepath}
 use Rattle.just_recipe.specs.declared.dependency.Dependency.{Dependency}
 use Rattle.just_recipe.specs.declared.recipe.Recipe.{Recipe}
 use Rattle.just_justfile.specs.Module.{module_name}
-use Rattle.just_justfile.specs.Walks.{IsOrdered, NamesRise, in_order}
+use Rattle.just_justfile.specs.Walks.{AreModulesOrdered, NamesRise, in_order}
 use Rattle.just_justfile.specs.declared.justfile.Justfile.{Justfile, out-Justfile}
 use Rattle.just_justfile.specs.declared.justfile.RecipeKey.{RecipeKey}
 use Rattle.just_recipe.specs.Recipes.{find_number, IsResolved}
@@ -83,7 +83,7 @@ abbrev pub IsPathIn : Justfile → Modulepath → Type 0
 IsPathIn justfile path = (inner : Justfile) × StandsIn justfile inner × (path ≡ (out-Justfile inner).module_path)
 
 -- Each name in the module's table of recipes leads to a held recipe, which is that of the name in the module; its default is that of a recipe that is held, and so is what an alias of a recipe stands for; an alias of a module has the path of a module that stands in it; and the held recipes are resolved.
-pub record IsClosed (justfile : Justfile) (recipes : List (Recipe Dependency)) : Type 0 where
+pub record IsClosedModule (justfile : Justfile) (recipes : List (Recipe Dependency)) : Type 0 where
   pub named : (name : Text) → IsSome (find name (out-Justfile justfile).recipes) → HasRecipe justfile recipes name
   pub default : IsSome (out-Justfile justfile).default → IsSome (default_recipe justfile recipes)
   pub aliases : (name : Text) → IsSome (find name (out-Justfile justfile).aliases.recipes) → IsSome (recipe_aliased justfile recipes name)
@@ -91,21 +91,21 @@ pub record IsClosed (justfile : Justfile) (recipes : List (Recipe Dependency)) :
   pub resolved : All IsResolved recipes
 
 -- The modules in a module: their names rise in byte order, so that each stands once, and the path of each leads from the module's one name on.
-pub record HaveNames (justfile : Justfile) : Type 0 where
+pub record HaveInnerNames (justfile : Justfile) : Type 0 where
   pub names : NamesRise (out-Justfile justfile).modules
   pub paths : (inner : Justfile) → Contains (out-Justfile justfile).modules inner → (out-Justfile inner).module_path ≡ path_on (out-Justfile justfile).module_path (module_name inner)
 
 -- The module and all modules below it are closed, and those in each have names.
 pub data AreClosed (recipes : List (Recipe Dependency)) : Justfile → Type 0 where
-  all_closed : {justfile : Justfile} → IsClosed justfile recipes → HaveNames justfile
+  all_closed : {justfile : Justfile} → IsClosedModule justfile recipes → HaveInnerNames justfile
       → ((inner : Justfile) → Contains (out-Justfile justfile).modules inner → AreClosed recipes inner) → AreClosed recipes justfile
 
 -- the module itself
-pub is_closed : {recipes : List (Recipe Dependency)} {justfile : Justfile} → AreClosed recipes justfile → IsClosed justfile recipes
+pub is_closed : {recipes : List (Recipe Dependency)} {justfile : Justfile} → AreClosed recipes justfile → IsClosedModule justfile recipes
 is_closed (all_closed closed names below) = closed
 
 -- the names of those in it
-pub have_names : {recipes : List (Recipe Dependency)} {justfile : Justfile} → AreClosed recipes justfile → HaveNames justfile
+pub have_names : {recipes : List (Recipe Dependency)} {justfile : Justfile} → AreClosed recipes justfile → HaveInnerNames justfile
 have_names (all_closed closed names below) = names
 
 -- each of its modules, with those below that
@@ -114,7 +114,7 @@ pub inner_closed : {recipes : List (Recipe Dependency)} {justfile : Justfile} �
 inner_closed (all_closed closed names below) = below
 
 -- so the names of those in it rise in byte order, in each module
-pub is_ordered : {recipes : List (Recipe Dependency)} {justfile : Justfile} → AreClosed recipes justfile → IsOrdered justfile
+pub is_ordered : {recipes : List (Recipe Dependency)} {justfile : Justfile} → AreClosed recipes justfile → AreModulesOrdered justfile
 is_ordered (all_closed closed names below) = in_order names.names (λ inner c. is_ordered (below inner c))
 
 -- the recipe is that of a module that stands in the root

@@ -31,15 +31,15 @@ pub data AreOrdered : List Justfile → Type 0 where
   in_order : {modules : List Justfile} → NamesRise modules → ((inner : Justfile) → Contains modules inner → AreOrdered (out-Justfile inner).modules) → AreOrdered modules
 
 -- so do the names of the modules in this one, and in each of them
-abbrev pub IsOrdered : Justfile → Type 0
-IsOrdered j = AreOrdered (out-Justfile j).modules
+abbrev pub AreModulesOrdered : Justfile → Type 0
+AreModulesOrdered j = AreOrdered (out-Justfile j).modules
 
 -- their names
 pub names_rise : {modules : List Justfile} → AreOrdered modules → NamesRise modules
 names_rise (in_order rise below) = rise
 
 -- the modules in each of them
-pub inner_ordered : {modules : List Justfile} → AreOrdered modules → (inner : Justfile) → Contains modules inner → IsOrdered inner
+pub inner_ordered : {modules : List Justfile} → AreOrdered modules → (inner : Justfile) → Contains modules inner → AreModulesOrdered inner
 inner_ordered (in_order rise below) = below
 
 -- the module of a name

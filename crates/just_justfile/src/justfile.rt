@@ -187,14 +187,14 @@ impl<'src> Justfile<'src> {
     ghost use Rattle.just_justfile.specs.Closed.{IsHeld, recipe_aliased, recipe_called, recipe_named};
     ghost use Rattle.just_justfile.specs.declared.justfile.Justfile.{out-Justfile};
     ghost use Rattle.just_table.specs.Entries.{find};
-    ghost use Rattle.just_justfile.specs.Walks.{IsOrdered, inner_along};
+    ghost use Rattle.just_justfile.specs.Walks.{AreModulesOrdered, inner_along};
 
     /// The module to which the names of a path lead from this one, each in the module of the one before it; this one where
     /// there are no names. None where there is no such module.
     ///
     /// The names of the modules rise in byte order, in each module (those of a compiled module do).
     pub fn submodule(&self, path: &Modulepath) -> Option<&Justfile<'src>>
-        requires { IsOrdered self.now }
+        requires { AreModulesOrdered self.now }
         ensures { option_copied result ≡ inner_along self.now path.now.components }
     {
         module_along(self, path.components.as_slice())

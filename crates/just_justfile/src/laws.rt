@@ -1,8 +1,8 @@
 //! Laws: calls that do nothing, whose contracts say what definitions keep.
 ghost use Rattle.std.specs.Prelude.{◌≡◌, List, [], ◌∷◌, Some};
 ghost use Rattle.std.specs.List.{Contains};
-ghost use Rattle.just_justfile.specs.Closed.{AreClosed, HaveNames, Held, IsClosed, StandsIn, name_of};
-ghost use Rattle.just_justfile.specs.Walks.{Inside, IsOrdered, end_from, inner_along, recipe_from};
+ghost use Rattle.just_justfile.specs.Closed.{AreClosed, HaveInnerNames, Held, IsClosedModule, StandsIn, name_of};
+ghost use Rattle.just_justfile.specs.Walks.{Inside, AreModulesOrdered, end_from, inner_along, recipe_from};
 ghost use Rattle.just_justfile.specs.declared.justfile.Justfile.{Justfile, out-Justfile};
 ghost use Rattle.just_justfile.specs.declared.resolution.Resolution.TheVariants.{Resolved};
 ghost use Rattle.just_names.specs.Name.{text_of_name};
@@ -14,9 +14,9 @@ ghost use Rattle.just_recipe.specs.Recipes.{find_number};
 /// Where a module and those below it are closed, the module itself is, and so is each of its modules with those below it. Those
 /// in it have names, which rise in byte order in each module.
 pub fn closes_its_modules()
-    ensures itself { (recipes : Held) (root : Justfile) → AreClosed recipes root → IsClosed root recipes }
-    ensures names { (recipes : Held) (root : Justfile) → AreClosed recipes root → HaveNames root }
-    ensures ordered { (recipes : Held) (root : Justfile) → AreClosed recipes root → IsOrdered root }
+    ensures itself { (recipes : Held) (root : Justfile) → AreClosed recipes root → IsClosedModule root recipes }
+    ensures names { (recipes : Held) (root : Justfile) → AreClosed recipes root → HaveInnerNames root }
+    ensures ordered { (recipes : Held) (root : Justfile) → AreClosed recipes root → AreModulesOrdered root }
     ensures modules { (recipes : _) (root inner : Justfile) →
         AreClosed recipes root → Contains (out-Justfile root).modules inner → AreClosed recipes inner }
 {}

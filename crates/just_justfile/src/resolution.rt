@@ -4,7 +4,7 @@ ghost use Rattle.std.specs.Option.{option_copied};
 ghost use Rattle.just_names.specs.Name.{text_of_name};
 ghost use Rattle.just_table.specs.Entries.{find};
 ghost use Rattle.just_paths.specs.declared.modulepath.Modulepath.{Modulepath};
-ghost use Rattle.just_justfile.specs.Walks.{AreOrdered, IsOrdered, IsReached, absent_in, end_of, inner_along, module_at, module_named, only, path_along, recipe_at, resolved_module, resolved_recipe};
+ghost use Rattle.just_justfile.specs.Walks.{AreOrdered, AreModulesOrdered, IsReached, absent_in, end_of, inner_along, module_at, module_named, only, path_along, recipe_at, resolved_module, resolved_recipe};
 
 use crate::disabled::Disabled;
 use crate::justfile::{Justfile, RecipeKey};
@@ -55,7 +55,7 @@ pub(crate) fn module_along<'run, 'src>(
     root: &'run Justfile<'src>,
     names: &[Text],
 ) -> Option<&'run Justfile<'src>>
-    requires { IsOrdered root.now }
+    requires { AreModulesOrdered root.now }
     ensures { option_copied result ≡ inner_along root.now names.now }
 {
     let mut found = Some(root);

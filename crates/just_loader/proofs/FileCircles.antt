@@ -19,11 +19,11 @@ use Rattle.just_names.specs.Name.{text_of_name}
 use Rattle.just_parts.specs.Items.{Item}
 use Rattle.just_parts.specs.Bare.{bare_item}
 use Rattle.just_ast_items.specs.Edge.{Edge, Imports, Declares, edge_of}
-use Rattle.just_loader.specs.FileCircles.{HasRows, LeadsOn, by_edge, by_edges, ChainTo, at_root, and_next, NamesCircle, leads_back}
+use Rattle.just_loader.specs.FileCircles.{HasRows, FileLeadsOn, by_edge, by_edges, ChainTo, at_root, and_next, BreaksCircle, leads_back}
 use Rattle.just_loader.specs.Keys.{FileStep, end_of, items_at, steps_by, steps_of}
 use Rattle.just_loader.specs.Placed.{file_at, text_step}
 use Rattle.just_loader.specs.Links.{Link, Nowhere, To, Fault, edge_link}
-use Rattle.just_loader.specs.Reached.{World, Reached, from_root, from_file, items_of, link, LeadsTo}
+use Rattle.just_loader.specs.Reached.{World, IsReachedFile, from_root, from_file, items_of, link, FileLeadsTo}
 use Rattle.just_errors.specs.Causes.{LeadsBack}
 use Rattle.just_loader.specs.Scanned.{IsScan, paths_in}
 use Rattle.just_loader.specs.declared.scanned.Scan.{Scan}
@@ -54,7 +54,7 @@ link_of_step (Some (Declares name literal optional)) l s h = let p = from_map _ 
 link_of_step None l s h = absurd h
 
 -- a file that is reached ends a chain
-chain_to : (w : World) (f : List ℕ) → Reached w f → (files : List (List ℕ)) × ChainTo w files f × Contains files f
+chain_to : (w : World) (f : List ℕ) → IsReachedFile w f → (files : List (List ℕ)) × ChainTo w files f × Contains files f
 chain_to w _ from_root = (w.root ∷ [], at_root, contained w.root (w.root ∷ []) (inl refl))
 chain_to w _ (from_file {f} {g} r l) =
     let c = chain_to w f r in
@@ -120,20 +120,20 @@ module _ (w : World) (scan : Scan) (is : IsScan w scan) where
   file_is a p e = get_or_from_slice_get paths a p [] e
 
   -- a step leads from file to file
-  edge_of_step : (a b : ℕ) (p q : List ℕ) → slice_get paths a ≡ Some p → slice_get paths b ≡ Some q → HasStep rows a b → LeadsTo w p q
+  edge_of_step : (a b : ℕ) (p q : List ℕ) → slice_get paths a ≡ Some p → slice_get paths b ≡ Some q → HasStep rows a b → FileLeadsTo w p q
   edge_of_step a b p q from to h =
       let s = from_map (λ (s : Step). s.target) b (steps rows a) (is_in b (map (λ (s : Step). s.target) (steps rows a)) h) in
       let x = at w scan is a (inside a p from) in let f = file_at scan a in
       let i = from_flat (steps_in f) (text_step scan s.0) (items_at w f) (subst (In (text_step scan s.0)) (steps_here w scan is a (inside a p from)) (in_map (text_step scan) s.0 (steps rows a) s.1)) in
-      let edge : LeadsTo w f (file_at scan s.0.target) = record {
+      let edge : FileLeadsTo w f (file_at scan s.0.target) = record {
         item = i.0;
         has = (x.scanned.items, ap (items_of w) (sym x.path_at) ∙ x.scanned.parsed, contained i.0 x.scanned.items (subst (In i.0) (said w scan is a x) i.1));
         leads = link_of_step (edge_of i.0) (link w (folder_of f) i.0) (text_step scan s.0) i.2;
       } in
-      subst (λ f. LeadsTo w f q) (file_is a p from) (subst (LeadsTo w f) (ap (file_at scan) (sym s.2) ∙ file_is b q to) edge)
+      subst (λ f. FileLeadsTo w f q) (file_is a p from) (subst (FileLeadsTo w f) (ap (file_at scan) (sym s.2) ∙ file_is b q to) edge)
 
   -- an edge of a file that is there is a step
-  step_of_edge : (a : ℕ) (p q : List ℕ) → slice_get paths a ≡ Some p → LeadsTo w p q → (b : ℕ) × (slice_get paths b ≡ Some q) × HasStep rows a b
+  step_of_edge : (a : ℕ) (p q : List ℕ) → slice_get paths a ≡ Some p → FileLeadsTo w p q → (b : ℕ) × (slice_get paths b ≡ Some q) × HasStep rows a b
   step_of_edge a p q from l =
       let t = step_of_link w (folder_of p) q (w.answers.enabled (bare_item l.item)) (edge_of l.item) l.leads in
       let listed : In l.item (items_at w p) = subst (λ o. In l.item (unwrap_or o [])) (sym l.has.1) (is_in l.item l.has.0 l.has.2) in
@@ -143,7 +143,7 @@ module _ (w : World) (scan : Scan) (is : IsScan w scan) where
       let to = at w scan is s.0.target (omega (arith, is.count, is.within a s.0.target step)) in
       (s.0.target, to.path_is ∙ ap Some (ap (λ (x : FileStep). x.to) (sym s.2) ∙ t.2), step)
 
-  pub leads_by_steps : (a : ℕ) (p q : List ℕ) → slice_get paths a ≡ Some p → LeadsOn w p q → (b : ℕ) × (slice_get paths b ≡ Some q) × Leads (HasStep rows) a b
+  pub leads_by_steps : (a : ℕ) (p q : List ℕ) → slice_get paths a ≡ Some p → FileLeadsOn w p q → (b : ℕ) × (slice_get paths b ≡ Some q) × Leads (HasStep rows) a b
   leads_by_steps a _ _ at (by_edge {f} {g} l) = let s = step_of_edge a f g at l in (s.0, s.1, by_step s.2)
   leads_by_steps a _ _ at (by_edges {f} {g} {h} l m) =
       let s = step_of_edge a f g at l in
@@ -152,14 +152,14 @@ module _ (w : World) (scan : Scan) (is : IsScan w scan) where
 
   module _ (ordered : IsOrdered rows 0) where
     -- a file that is reached is in the order
-    pub place_in_order : (p : List ℕ) → Reached w p → (a : ℕ) × (slice_get paths a ≡ Some p) × Contains ordered.1 a
+    pub place_in_order : (p : List ℕ) → IsReachedFile w p → (a : ℕ) × (slice_get paths a ≡ Some p) × Contains ordered.1 a
     place_in_order _ from_root = (0, is.root, root_in_order rows ordered)
     place_in_order _ (from_file {f} {g} r l) =
         let p = place_in_order f r in
         let s = step_of_edge p.0 f g p.1 l in
         (s.0, s.1, step_in_order rows ordered p.0 s.0 p.2 s.2)
 
-    pub none_leads_back : (f : List ℕ) → Reached w f → LeadsOn w f f → ⊥
+    pub none_leads_back : (f : List ℕ) → IsReachedFile w f → FileLeadsOn w f f → ⊥
     none_leads_back f r l =
         let p = place_in_order f r in
         let s = leads_by_steps p.0 f f p.1 l in
@@ -170,20 +170,20 @@ module _ (w : World) (scan : Scan) (is : IsScan w scan) where
     path_of k h = read_at paths (slice_index ns k) (omega (arith, circle_inside rows ns is.within c k h, is.count, length-map scan.files.items (λ (f : ScannedFile). f.path)))
 
     -- a chain to a file of the circle that has the first one
-    chain_along : (k : ℕ) (first p : List ℕ) → k < length ns → slice_get paths (slice_index ns 0) ≡ Some first → slice_get paths (slice_index ns k) ≡ Some p → (files : List (List ℕ)) × ChainTo w files p × Contains files first × Reached w p
+    chain_along : (k : ℕ) (first p : List ℕ) → k < length ns → slice_get paths (slice_index ns 0) ≡ Some first → slice_get paths (slice_index ns k) ≡ Some p → (files : List (List ℕ)) × ChainTo w files p × Contains files first × IsReachedFile w p
     chain_along zero first p h at to =
-        let here : Reached w p = (is.reached p).0 (got paths (slice_index ns 0) p to) in
+        let here : IsReachedFile w p = (is.reached p).0 (got paths (slice_index ns 0) p to) in
         let r = chain_to w p here in
         (r.0, r.1, subst (Contains r.0) (some_same (sym to ∙ at)) r.2, here)
     chain_along (suc k) first p h at to =
         let before = path_of k (omega arith) in
         let r = chain_along k first before.0 (omega arith) at before.1 in
         let step : HasStep rows (slice_index ns k) (slice_index ns (suc k)) = subst (λ n. HasStep rows (slice_index ns k) (slice_index ns n)) (omega arith) (c.walk k (omega arith)) in
-        let l : LeadsTo w before.0 p = edge_of_step (slice_index ns k) (slice_index ns (suc k)) before.0 p before.1 to step in
+        let l : FileLeadsTo w before.0 p = edge_of_step (slice_index ns k) (slice_index ns (suc k)) before.0 p before.1 to step in
         (r.0 ++ p ∷ [], and_next r.1 l, contained first (r.0 ++ p ∷ []) (in_left first r.0 (p ∷ []) (is_in first r.0 r.2)), from_file r.3 l)
 
     -- the files at the last two places of the circle
-    pub names_circle : (n a b : ℕ) (current last : List ℕ) → n ≡ length ns → a ≡ get_or ns (n - 1 - 1) a → b ≡ get_or ns (n - 1) b → slice_get paths a ≡ Some current → slice_get paths b ≡ Some last → NamesCircle w (LeadsBack current last)
+    pub names_circle : (n a b : ℕ) (current last : List ℕ) → n ≡ length ns → a ≡ get_or ns (n - 1 - 1) a → b ≡ get_or ns (n - 1) b → slice_get paths a ≡ Some current → slice_get paths b ≡ Some last → BreaksCircle w (LeadsBack current last)
     names_circle n a b current last len is_a is_b at to =
         let before : n - 1 - 1 < length ns = omega (arith, c.steps) in
         let end : n - 1 < length ns = omega (arith, c.steps) in

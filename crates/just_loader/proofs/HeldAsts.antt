@@ -1,17 +1,15 @@
 -- Tables of what the texts of nodes say.
-use Rattle.std.proofs.Common.{◌≡◌, ℕ, zero, suc, ◌+◌, ◌<◌, ◌≤◌, Bool, true, false, cond, List, [], ◌∷◌, ◌++◌, length, get_or, Option, None, Some, ◌⊎◌, refl, sym, ap, subst, ◌∙◌, arith, inl, inr}
-use Rattle.std.specs.List.{All, slice_get, flat_map}
+use Rattle.std.proofs.Common.{◌≡◌, ℕ, suc, ◌<◌, ◌≤◌, Bool, true, false, cond, List, [], ◌∷◌, ◌++◌, length, get_or, Option, None, Some, ◌⊎◌, refl, sym, ap, subst, ◌∙◌, arith, inl, inr}
+use Rattle.std.specs.List.{All, slice_get}
 use Rattle.std.proofs.lemmas.Bool.{cases_lt, false_from_ne_true}
 use Rattle.std.proofs.lemmas.List.{append_assoc, length_push, length-append, append-nil}
 use Rattle.std.proofs.lemmas.Option.{slice_get_within, slice_get_read, get_or_from_slice_get}
-use Rattle.just_graph.specs.Unfolding.{key}
 use Rattle.just_graph.specs.declared.unfolding.Unfolded.{Unfolded}
-use Rattle.just_graph.proofs.Members.{In, in_flat, is_in}
-use Rattle.just_parts.specs.Syntax.{AreRising, numbers}
 use Rattle.just_parts.specs.Items.{Ast}
 use Rattle.just_parts.specs.Asts.{AstKey, same_ast_key}
 use Rattle.just_parts.proofs.AstKeys.{key_same}
 use Rattle.just_loader.specs.Loaded.{AreToldApart}
+use Rattle.just_loader.specs.Reading.{AreApart}
 use Rattle.just_loader.specs.Placed.{file_at}
 use Rattle.just_loader.specs.Parsed.{AreKeyed, AreHeld, text_key}
 use Rattle.just_loader.specs.Scanned.{paths_in}
@@ -86,52 +84,14 @@ module _ (scan : Scan) (nodes : List Unfolded) (asts left rest : List Ast) (old 
       let same : file_at scan u.node ≡ file.path = get_or_from_slice_get (paths_in files) u.node file.path [] (map_get (λ (f : ScannedFile). f.path) files u.node file there) in
       held_more scan nodes asts left rest old new here u last keyed held e (ap (slice_get nodes) (sym is) ∙ next_there) path (named ∙ sym same) put
 
--- numbers that rise
-rising_on : (low : ℕ) (ns : List ℕ) (high : ℕ) → AreRising low ns high → low ≤ high
-rising_on low [] high h = h
-rising_on low (n ∷ ns) high h = omega (arith, h.0, rising_on (n + 1) ns high h.1)
-
-rising_split : (low : ℕ) (ms ns : List ℕ) (high : ℕ) → AreRising low (ms ++ ns) high → (middle : ℕ) × AreRising low ms middle × AreRising middle ns high
-rising_split low [] ns high h = (low, omega arith, h)
-rising_split low (m ∷ ms) ns high h = let r = rising_split (m + 1) ms ns high h.1 in (r.0, (h.0, r.1), r.2)
-
-rising_within : (low : ℕ) (ns : List ℕ) (high n : ℕ) → AreRising low ns high → In n ns → (low ≤ n) × (n < high)
-rising_within low [] high n h i = absurd i
-rising_within low (m ∷ ns) high n h (inl e) = (omega (arith, h.0, e), omega (arith, e, rising_on (m + 1) ns high h.1))
-rising_within low (m ∷ ns) high n h (inr i) = let r = rising_within (m + 1) ns high n h.1 i in (omega (arith, h.0, r.0), r.1)
-
-module _ {A : Type 0} (f : A → List ℕ) where
-  part_rises : (low : ℕ) (xs : List A) (high k : ℕ) (x : A) → AreRising low (flat_map f xs) high → slice_get xs k ≡ Some x → (from : ℕ) × (to : ℕ) × AreRising from (f x) to
-  part_rises low [] high k x h e = absurd (none_some e)
-  part_rises low (y ∷ xs) high zero x h e =
-      let r = rising_split low (f y) (flat_map f xs) high h in (low, r.0, subst (λ z. AreRising low (f z) r.0) (some_same e) r.1)
-  part_rises low (y ∷ xs) high (suc k) x h e =
-      let r = rising_split low (f y) (flat_map f xs) high h in part_rises r.0 xs high k x r.2 e
-
-  later : (low : ℕ) (y : A) (xs : List A) (high k n : ℕ) (x z : A) → AreRising low (f y ++ flat_map f xs) high → y ≡ z → slice_get xs k ≡ Some x → In n (f z) → In n (f x) → ⊥
-  later low y xs high k n x z h e at a b =
-      let r = rising_split low (f y) (flat_map f xs) high h in
-      let first = rising_within low (f y) r.0 n r.1 (subst (λ v. In n (f v)) (sym e) a) in
-      let rest = rising_within r.0 (flat_map f xs) high n r.2 (in_flat f n x xs (is_in x xs (got xs k x at)) b) in
-      omega (arith, first.1, rest.0)
-
-  -- a number is in one part
-  part_apart : (low : ℕ) (xs : List A) (high i j n : ℕ) (x y : A) → AreRising low (flat_map f xs) high → slice_get xs i ≡ Some x → slice_get xs j ≡ Some y → In n (f x) → In n (f y) → i ≡ j
-  part_apart low [] high i j n x y h e g a b = absurd (none_some e)
-  part_apart low (z ∷ xs) high zero zero n x y h e g a b = refl
-  part_apart low (z ∷ xs) high zero (suc j) n x y h e g a b = absurd (later low z xs high j n y x h (some_same e) g a b)
-  part_apart low (z ∷ xs) high (suc i) zero n x y h e g a b = absurd (later low z xs high i n x y h (some_same g) e b a)
-  part_apart low (z ∷ xs) high (suc i) (suc j) n x y h e g a b =
-      let r = rising_split low (f z) (flat_map f xs) high h in ap suc (part_apart r.0 xs high i j n x y r.2 e g a b)
-
 module _ (scan : Scan) (nodes : List Unfolded) (asts : List Ast) (table : AstKey → Option Ast) (held : AreHeld scan nodes asts table) where
-  pub are_told_apart : (high : ℕ) → AreRising 0 (flat_map (λ (a : Ast). numbers a.items) asts) high → AreToldApart table
-  are_told_apart high rising = record {
-    rising = λ k ast e. let r = held.only k ast e in part_rises (λ (a : Ast). numbers a.items) 0 asts high r.0 ast rising r.3;
+  pub are_told_apart : AreApart asts → AreToldApart table
+  are_told_apart h = record {
+    rising = λ k ast e. let r = held.only k ast e in let rises = h.1.rising r.0 ast (map_get Some asts r.0 ast r.3) in (rises.0, h.0, rises.1);
     apart = λ k l a b n e g other x y.
         let r = held.only k a e in
         let s = held.only l b g in
-        let place : r.0 ≡ s.0 = part_apart (λ (v : Ast). numbers v.items) 0 asts high r.0 s.0 n a b rising r.3 s.3 (is_in n (numbers a.items) x) (is_in n (numbers b.items) y) in
+        let place : r.0 ≡ s.0 = h.1.apart r.0 s.0 a b n (map_get Some asts r.0 a r.3) (map_get Some asts s.0 b s.3) x y in
         let node : r.1 ≡ s.1 = some_same (sym r.2 ∙ ap (slice_get nodes) place ∙ s.2) in
         let same : same_ast_key k l ≡ true = (key_same k l).1 (sym r.4 ∙ ap (text_key scan) node ∙ s.4) in
         let wrong : true ≡ false = sym same ∙ other in cc;

@@ -1,6 +1,6 @@
 -- What is loaded, by paths and names.
 use Rattle.std.proofs.Common.{◌≡◌, ◌==◌, ℕ, ◌<◌, Bool, true, false, cond, not, List, [], ◌∷◌, map, length, Option, Some, inl, inr, refl, sym, ap, subst, ◌∙◌, arith}
-use Rattle.std.specs.List.{All, Contains, filter, flat_map, slice_get}
+use Rattle.std.specs.List.{All, Contains, filter, slice_get}
 use Rattle.std.specs.Str.{bytes_eq}
 use Rattle.std.proofs.lemmas.Bool.Decides.{eqb_tells}
 use Rattle.std.proofs.lemmas.Bool.{false_from_ne_true}
@@ -16,7 +16,6 @@ use Rattle.just_graph.proofs.MappedUnfolding.{firsts_mapped, unfolds_mapped}
 use Rattle.just_graph.proofs.Members.{In, contained, is_in, in_map, from_map}
 use Rattle.just_parts.specs.Asts.{AstKey}
 use Rattle.just_names.specs.Texts.{Text}
-use Rattle.just_parts.specs.Syntax.{AreRising, numbers}
 use Rattle.just_parts.specs.Items.{Ast}
 use Rattle.just_loader.specs.Keys.{AreFirstFiles, FileNode, FileStep, ast_key, steps_of}
 use Rattle.just_loader.specs.Loaded.{IsAstOf, IsLoaded, at_first}
@@ -24,6 +23,7 @@ use Rattle.just_loader.specs.Placed.{at_first_places, file_at, file_node, key_at
 use Rattle.just_loader.specs.Loading.{AreParsed, KeepsLaws}
 use Rattle.just_loader.specs.Parsed.{AreHeld, relative_at}
 use Rattle.just_loader.specs.Reached.{World, relative_to_root}
+use Rattle.just_loader.specs.Reading.{AreApart}
 use Rattle.just_loader.specs.Scanned.{IsScan}
 use Rattle.just_loader.specs.declared.scanned.Scan.{Scan}
 use Rattle.just_loader.proofs.FileKeys.{file_key, from_key, node_reached, root_at, root_inside, same_keys, step_inside}
@@ -83,9 +83,9 @@ module _ (w : World) (scan : Scan) (is : IsScan w scan) where
 
 -- what is loaded, from what is scanned, unfolded, parsed and held
 pub is_loaded : (w : World) (scan : Scan) → IsScan w scan → (us : List Unfolded) (whole : IsWhole scan.rows.items us) (asts : List Ast) → AreParsed w scan whole.first.0 asts
-    → (high : ℕ) → AreRising 0 (flat_map (λ (ast : Ast). numbers ast.items) asts) high → All (KeepsLaws w.answers) asts
+    → AreApart asts → All (KeepsLaws w.answers) asts
     → (table : AstKey → Option Ast) → AreHeld scan us asts table → (loaded : List Text) → loaded ≡ map (relative_at scan) (at_first_places (places_of us)) → IsLoaded w table loaded
-is_loaded w scan is us whole asts parsed high rising laws table held loaded paths =
+is_loaded w scan is us whole asts parsed apart laws table held loaded paths =
     let ns = whole.first.0 in
     let told : map unfolded_key us ≡ map key ns = told_same (steps scan.rows.items) us ns whole.first.2 in
     let listed : (n : Node) → In n ns → Contains (map (file_node scan) ns) (file_node scan n) = λ n i. contained (file_node scan n) (map (file_node scan) ns) (in_map (file_node scan) n ns i) in
@@ -117,7 +117,7 @@ is_loaded w scan is us whole asts parsed high rising laws table held loaded path
           let r = held.only k ast e in
           let n = get_map key ns r.0 (unfolded_key r.1) (ap (λ ks. slice_get ks r.0) (sym told) ∙ map_get unfolded_key us r.0 r.1 r.2) in
           (file_node scan n.0, listed n.0 (is_in n.0 ns (got ns r.0 n.0 n.1)), ap (λ (x : Key). key_at scan x.path x.node) n.2 ∙ r.4);
-      numbers = are_told_apart scan us asts table held high rising;
+      numbers = are_told_apart scan us asts table held apart;
       priors = λ k ast e. (held_each scan us asts table held (KeepsLaws w.answers) laws k ast e).priors;
       attributes = λ k ast e. (held_each scan us asts table held (KeepsLaws w.answers) laws k ast e).attributes;
       constants = λ k ast e. (held_each scan us asts table held (KeepsLaws w.answers) laws k ast e).constants;

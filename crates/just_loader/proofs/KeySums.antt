@@ -7,10 +7,10 @@ use Rattle.just_graph.specs.Unfolded.{unfolded_key, AreApart, AreReached}
 use Rattle.just_graph.specs.declared.unfolding.Unfolded.{Unfolded}
 use Rattle.just_graph.proofs.Members.{In, contained, is_in, in_cases, in_map, without}
 use Rattle.just_errors.specs.Causes.{Cause, NoNumber, Keeps}
-use Rattle.just_loader.specs.FileCircles.{LeadsOn, by_edge, by_edges, ChainTo, at_root, and_next, NamesCircle, leads_back}
-use Rattle.just_loader.specs.Keys.{IsKey, FileKey, spends_at, NamesInFiles, no_root, at_fault, in_circle, too_many}
+use Rattle.just_loader.specs.FileCircles.{FileLeadsOn, by_edge, by_edges, ChainTo, at_root, and_next, BreaksCircle, leads_back}
+use Rattle.just_loader.specs.Keys.{IsKey, FileKey, spends_at, BreaksFiles, no_root, at_fault, in_circle, too_many}
 use Rattle.just_loader.specs.Placed.{file_at}
-use Rattle.just_loader.specs.Reached.{World, Reached, LeadsTo, NamesInScan}
+use Rattle.just_loader.specs.Reached.{World, IsReachedFile, FileLeadsTo, BreaksInScan}
 use Rattle.just_loader.specs.Scanned.{IsScan}
 use Rattle.just_loader.specs.Sources.{text_at}
 use Rattle.just_loader.specs.declared.scanned.Scan.{Scan}
@@ -33,23 +33,23 @@ sum_map g f [] = refl
 sum_map g f (x ∷ xs) = sum_by-cons g (f x) (map f xs) ∙ ap (λ n. g (f x) + n) (sum_map g f xs) ∙ sym (sum_by-cons (λ y. g (f y)) x xs)
 
 -- a file of a chain is reached, and the last is it or what it leads on to
-reached_in : (w : World) {files : List (List ℕ)} {f : List ℕ} → ChainTo w files f → (g : List ℕ) → In g files → (g ≡ f) ⊎ LeadsOn w g f
+reached_in : (w : World) {files : List (List ℕ)} {f : List ℕ} → ChainTo w files f → (g : List ℕ) → In g files → (g ≡ f) ⊎ FileLeadsOn w g f
 reached_in w at_root g (inl e) = inl e
 reached_in w at_root g (inr h) = absurd h
 reached_in w (and_next {files = files} {g = h} c l) g i = elim (in_cases g files (h ∷ []) i) [
-  | inl a ↦ inr (elim (reached_in w c g a) [ inl e ↦ by_edge (subst (λ x. LeadsTo w x h) (sym e) l) | inr more ↦ leads_after w more l ])
+  | inl a ↦ inr (elim (reached_in w c g a) [ inl e ↦ by_edge (subst (λ x. FileLeadsTo w x h) (sym e) l) | inr more ↦ leads_after w more l ])
   | inr (inl e) ↦ inl e
   | inr (inr none) ↦ absurd none
 ]
   where
-    leads_after : (w : World) {f g h : List ℕ} → LeadsOn w f g → LeadsTo w g h → LeadsOn w f h
+    leads_after : (w : World) {f g h : List ℕ} → FileLeadsOn w f g → FileLeadsTo w g h → FileLeadsOn w f h
     leads_after w (by_edge m) l = by_edges m (by_edge l)
     leads_after w (by_edges m more) l = by_edges m (leads_after w more l)
 
 -- where no file leads back to itself, there is no circle
-pub no_circle : (w : World) → ((f : List ℕ) → Reached w f → LeadsOn w f f → ⊥) → (c : Cause) → NamesCircle w c → ⊥
+pub no_circle : (w : World) → ((f : List ℕ) → IsReachedFile w f → FileLeadsOn w f f → ⊥) → (c : Cause) → BreaksCircle w c → ⊥
 no_circle w none _ (leads_back {current} {next} files r l chain back) = elim (reached_in w chain next (is_in next files back)) [
-  | inl e ↦ none current r (by_edge (subst (LeadsTo w current) e l))
+  | inl e ↦ none current r (by_edge (subst (FileLeadsTo w current) e l))
   | inr more ↦ none current r (by_edges l more)
 ]
 
@@ -90,7 +90,7 @@ module _ (w : World) (scan : Scan) (is : IsScan w scan) (us : List Unfolded) (ke
       subst (IsKey w) u.2 (to_key w scan is (unfolded_key u.0) (reached at.0 u.0 (get_take us n at.0 u.0 u.1).1))
 
   -- the first texts take too many numbers
-  pub many : Keeps (NamesInScan w) → Keeps (NamesCircle w) → (n : ℕ) → 2 ^ 64 < sum_by takes (take n us) → NamesInFiles w NoNumber
+  pub many : Keeps (BreaksInScan w) → Keeps (BreaksCircle w) → (n : ℕ) → 2 ^ 64 < sum_by takes (take n us) → BreaksFiles w NoNumber
   many kept straight n h =
       too_many kept straight (map key_of (take n us)) (each_once n) (each_key n)
       (subst (λ m. 2 ^ 64 < m) (sym (sum_map (λ (k : FileKey). spends_at w k.node) key_of (take n us))) h)
@@ -109,7 +109,7 @@ module _ (w : World) (scan : Scan) (is : IsScan w scan) (us : List Unfolded) (ke
       omega (arith, total, h, less, sum_map (λ (k : FileKey). spends_at w k.node) key_of us)
 
   -- the rules of files are kept
-  pub files_kept : IsSome (text_at w.files w.root) → Keeps (NamesInScan w) → ((f : List ℕ) → Reached w f → LeadsOn w f f → ⊥) → sum_by takes us ≤ 2 ^ 64 → Keeps (NamesInFiles w)
+  pub files_kept : IsSome (text_at w.files w.root) → Keeps (BreaksInScan w) → ((f : List ℕ) → IsReachedFile w f → FileLeadsOn w f f → ⊥) → sum_by takes us ≤ 2 ^ 64 → Keeps (BreaksFiles w)
   files_kept there kept none total _ (no_root e same) = not_there (text_at w.files w.root) e there
   files_kept there kept none total c (at_fault n) = kept c n
   files_kept there kept none total c (in_circle n) = no_circle w none c n

@@ -1,3 +1,4 @@
+pub mod BroughtIn
 pub mod ComingIn
 pub mod FileCircles
 pub mod FileRows
@@ -15,6 +16,7 @@ pub mod ParsedFiles
 pub mod Parsings
 pub mod Passed
 pub mod Paths
+pub mod ReadTexts
 pub mod Scanning
 pub mod Scans
 pub mod Tables

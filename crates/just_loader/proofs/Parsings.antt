@@ -1,22 +1,20 @@
 -- What the texts of nodes say, one after another.
 use Rattle.std.proofs.Common.{◌≡◌, ℕ, ◌+◌, ◌<◌, ◌≤◌, List, [], ◌∷◌, ◌++◌, take, length, get_or, Some, Result, Ok, Err, IfErr, inl, inr, refl, sym, ap, subst, ◌∙◌, arith}
-use Rattle.std.specs.List.{All, flat_map, slice_get}
-use Rattle.std.proofs.lemmas.Grind.{flat_map-append}
-use Rattle.std.proofs.lemmas.List.{append-nil}
+use Rattle.std.specs.List.{All, slice_get}
 use Rattle.std.proofs.lemmas.List.Elements.{All-push, All-same}
 use Rattle.std.proofs.lemmas.List.Sums.{sum_by_more}
 use Rattle.std.proofs.lemmas.Option.{slice_get_read}
 use Rattle.just_graph.specs.Unfolding.{Node}
 use Rattle.just_graph.specs.declared.unfolding.Unfolded.{Unfolded}
-use Rattle.just_parts.specs.Syntax.{AreRising, numbers}
 use Rattle.just_parts.specs.Items.{Ast}
+use Rattle.just_parts.specs.Syntax.{SyntaxAnswers}
 use Rattle.just_errors.specs.declared.error.Error.{Error}
 use Rattle.just_errors.specs.declared.error.Error.TheVariants as error
 use Rattle.just_source.specs.declared.source.Source.{Source}
 use Rattle.just_loader.specs.Keys.{spends_at}
 use Rattle.just_loader.specs.Loaded.{IsAstOf}
 use Rattle.just_loader.specs.Placed.{file_at, file_node}
-use Rattle.just_loader.specs.Loading.{AreNodes, AreParsedSoFar, AreSources, IsSaid, Stops, StopsAt, spent_by}
+use Rattle.just_loader.specs.Loading.{AreNodes, AreParsedSoFar, AreSources, IsSaid, IsScanBy, Stops, StopsAt, spent_by}
 use Rattle.just_loader.specs.Reached.{World}
 use Rattle.just_loader.specs.Scanned.{IsScan}
 use Rattle.just_loader.specs.declared.scanned.Scan.{Scan}
@@ -56,36 +54,33 @@ parsed_more w scan ns old new ast so one is k n a at here = elim (get_cases old 
 pub all_more : {A : Type 0} (P : A → Type 0) (old new : List A) (x : A) → All P old → P x → new ≡ old ++ x ∷ [] → All P new
 all_more P old new x all one is = All-same P new (old ++ x ∷ []) is (All-push P old x all one)
 
--- numbers that rise, and then more
-rising_from : (low less : ℕ) (ns : List ℕ) (high : ℕ) → less ≤ low → AreRising low ns high → AreRising less ns high
-rising_from low less [] high l h = omega arith
-rising_from low less (n ∷ ns) high l h = (omega (arith, h.0), h.1)
-
-rising_on : (low mid high : ℕ) (ns ms : List ℕ) → AreRising low ns mid → AreRising mid ms high → AreRising low (ns ++ ms) high
-rising_on low mid high [] ms h k = rising_from mid low ms high h k
-rising_on low mid high (n ∷ ns) ms h k = (h.0, rising_on (n + 1) mid high ns ms h.1 k)
-
-abbrev all_numbers : List Ast → List ℕ
-all_numbers asts = flat_map (λ (ast : Ast). numbers ast.items) asts
-
-pub rising_more : (old new : List Ast) (ast : Ast) (mid high : ℕ) → AreRising 0 (all_numbers old) mid → AreRising mid (numbers ast.items) high → new ≡ old ++ ast ∷ [] → AreRising 0 (all_numbers new) high
-rising_more old new ast mid high h k is =
-    let one : all_numbers (ast ∷ []) ≡ numbers ast.items = append-nil (numbers ast.items) in
-    let all : all_numbers new ≡ all_numbers old ++ numbers ast.items = ap all_numbers is ∙ flat_map-append (λ (a : Ast). numbers a.items) old (ast ∷ []) ∙ ap (λ ns. all_numbers old ++ ns) one in
-    subst (λ ns. AreRising 0 ns high) (sym all) (rising_on 0 mid high (all_numbers old) (numbers ast.items) h k)
-
 -- the numbers of one more text
 pub spent_more : (w : World) (scan : Scan) (us : List Unfolded) (k : ℕ) (d : Unfolded) → k < length us → spent_by w scan (take (k + 1) us) ≡ spent_by w scan (take k us) + spends_at w (file_at scan (get_or us k d).node)
 spent_more w scan us k d h = sum_by_more (λ (u : Unfolded). spends_at w (file_at scan u.node)) us k d h
 
-pub stops_at_last : (w : World) (scan : Scan) (us : List Unfolded) (k : ℕ) (d : Unfolded) (given : ℕ) (e : Error) → k < length us → given ≡ spent_by w scan (take k us) → StopsAt given (spends_at w (file_at scan (get_or us k d).node)) e → Stops w scan us e
-stops_at_last w scan us k d given (error.Load e) h is s = s
-stops_at_last w scan us k d given (error.Compile e) h is s = s
-stops_at_last w scan us k d given (error.Invocation e) h is s = s
-stops_at_last w scan us k d given (error.Run e) h is s = s
-stops_at_last w scan us k d given error.Exhausted h is s = (k + 1, omega arith, omega (arith, s, is, spent_more w scan us k d h))
-stops_at_last w scan us k d given error.Memory h is s = tt
+pub stops_at_last : (w : World) (scan : Scan) (us : List Unfolded) (k : ℕ) (d : Unfolded) (first given : ℕ) (e : Error) → k < length us → given ≤ first + spent_by w scan (take k us) → StopsAt given (spends_at w (file_at scan (get_or us k d).node)) e → Stops w scan us first e
+stops_at_last w scan us k d first given (error.Load e) h is s = s
+stops_at_last w scan us k d first given (error.Compile e) h is s = s
+stops_at_last w scan us k d first given (error.Invocation e) h is s = s
+stops_at_last w scan us k d first given (error.Run e) h is s = s
+stops_at_last w scan us k d first given error.Exhausted h is s = (k + 1, omega arith, omega (arith, s, is, spent_more w scan us k d h))
+stops_at_last w scan us k d first given error.Memory h is s = tt
 
 pub err_by : {A : Type 0} (P Q : Error → Type 0) (r : Result A Error) → IfErr r P → ((e : Error) → P e → Q e) → IfErr r Q
 err_by P Q (Ok a) h f = tt
 err_by P Q (Err e) h f = f e h
+
+-- where numbers do not run out, it does not matter how many were given before
+stops_anew : (w : World) (scan : Scan) (us : List Unfolded) (given : ℕ) (e : Error) → (e ≡ error.Exhausted → ⊥) → Stops w scan us given e → Stops w scan us 0 e
+stops_anew w scan us given error.Exhausted other h = absurd (other refl)
+stops_anew w scan us given (error.Load e) other h = h
+stops_anew w scan us given (error.Compile e) other h = h
+stops_anew w scan us given (error.Invocation e) other h = h
+stops_anew w scan us given (error.Run e) other h = h
+stops_anew w scan us given error.Memory other h = h
+
+pub stops_unless : {A : Type 0} (r : Result A Error) (scan : Scan) (answers : SyntaxAnswers) (us : List Unfolded) (given : ℕ) (e : Error) → r ≡ Err e → (e ≡ error.Exhausted → ⊥)
+    → IfErr r (λ (x : Error). (w : World) → IsScanBy w scan answers → Stops w scan us given x) → (w : World) → IsScanBy w scan answers → Stops w scan us 0 e
+stops_unless {A} r scan answers us given e is other h w by =
+    let stopped = subst (λ (x : Result A Error). IfErr x (λ (x : Error). (w : World) → IsScanBy w scan answers → Stops w scan us given x)) is h in
+    stops_anew w scan us given e other (stopped w by)

@@ -13,7 +13,7 @@ use Rattle.just_parts.specs.Items.{Item}
 use Rattle.just_errors.specs.declared.error.Error.{Error}
 use Rattle.just_errors.specs.declared.error.Error.TheVariants as error
 use Rattle.just_loader.specs.Links.{Link, Nowhere, To, Fault, edge_link, link_in}
-use Rattle.just_loader.specs.Reached.{World, relative_to_root, items_of, items_said, link, HasItem, LeadsTo, NamesAt, no_grammar, no_number, in_item}
+use Rattle.just_loader.specs.Reached.{World, relative_to_root, items_of, items_said, link, HasItem, FileLeadsTo, BreaksAt, no_grammar, no_number, in_item}
 use Rattle.just_errors.specs.Causes.{Cause, Broken, Reports}
 use Rattle.just_loader.specs.Scanned.{ArePlacesOf, IsStepTo, IsStepOf, AreSteps, IsScanned}
 use Rattle.just_loader.specs.Sources.{Files, text_at}
@@ -58,17 +58,17 @@ module _ (w : World) (f : SourceFile) (file : find f.path w.files ≡ Some f) wh
   text_there = ap (option_map (λ (x : SourceFile). x.text)) file
 
   -- a text that is refused is named
-  pub refused_at : (relative text : List ℕ) (e : Error) → relative ≡ relative_to_root w f.path → text ≡ f.text → Refuses w.answers relative text 0 e → Reports (NamesAt w f.path) e
+  pub refused_at : (relative text : List ℕ) (e : Error) → relative ≡ relative_to_root w f.path → text ≡ f.text → Refuses w.answers relative text 0 e → Reports (BreaksAt w f.path) e
   refused_at relative text (error.Load e) r t h = absurd h
   refused_at relative text (error.Compile e) r t h =
       let none : w.answers.parsed (relative_to_root w f.path) f.text ≡ None = ap (λ x. w.answers.parsed x f.text) (sym r) ∙ ap (w.answers.parsed relative) (sym t) ∙ h.says_nothing in
-      subst (λ k. NamesAt w f.path (Broken e.token k)) (sym h.kind) (no_grammar f.text text_there none (record { path_is = h.path ∙ r; src_is = h.src ∙ t }))
+      subst (λ k. BreaksAt w f.path (Broken e.token k)) (sym h.kind) (no_grammar f.text text_there none (record { path_is = h.path ∙ r; src_is = h.src ∙ t }))
   refused_at relative text (error.Invocation e) r t h = absurd h
   refused_at relative text (error.Run e) r t h = absurd h
   refused_at relative text error.Exhausted r t h = no_number f.text text_there (let same : w.answers.spends relative text ≡ w.answers.spends (relative_to_root w f.path) f.text = ap (w.answers.spends relative) t ∙ ap (λ x. w.answers.spends x f.text) r in omega (arith, same, h))
   refused_at relative text error.Memory r t h = tt
 
-  pub refused_err : {A : Type 0} (relative text : List ℕ) (r : Result A Error) → relative ≡ relative_to_root w f.path → text ≡ f.text → IfErr r (Refuses w.answers relative text 0) → IfErr r (Reports (NamesAt w f.path))
+  pub refused_err : {A : Type 0} (relative text : List ℕ) (r : Result A Error) → relative ≡ relative_to_root w f.path → text ≡ f.text → IfErr r (Refuses w.answers relative text 0) → IfErr r (Reports (BreaksAt w f.path))
   refused_err relative text (Ok a) p t h = tt
   refused_err relative text (Err e) p t h = refused_at relative text e p t h
 
@@ -89,14 +89,14 @@ module _ (w : World) (f : SourceFile) (file : find f.path w.files ≡ Some f) wh
         let i = get_map (link w (folder_of f.path)) (map bare_item items) at.0 l at.1 in
         (i.0, (map bare_item items, said, got (map bare_item items) at.0 i.0 i.1), i.2)
 
-    pub fault_at : (c : Cause) → Contains links (Fault c) → NamesAt w f.path c
+    pub fault_at : (c : Cause) → Contains links (Fault c) → BreaksAt w f.path c
     fault_at c h = let i = from_links (Fault c) h in in_item i.0 i.1 i.2
 
-    pub leads_to : (path : List ℕ) → Contains links (To path) → LeadsTo w f.path path
+    pub leads_to : (path : List ℕ) → Contains links (To path) → FileLeadsTo w f.path path
     leads_to path h = let i = from_links (To path) h in record { item = i.0; has = i.1; leads = i.2 }
 
     -- what is scanned has no fault
-    pub none_at : (paths : List (List ℕ)) (ts : List (Option ℕ)) → ArePlacesOf paths links ts → w.answers.spends (relative_to_root w f.path) f.text ≤ 2 ^ 64 → (c : Cause) → NamesAt w f.path c → ⊥
+    pub none_at : (paths : List (List ℕ)) (ts : List (Option ℕ)) → ArePlacesOf paths links ts → w.answers.spends (relative_to_root w f.path) f.text ≤ 2 ^ 64 → (c : Cause) → BreaksAt w f.path c → ⊥
     none_at paths ts places fits _ (no_grammar text there none told) =
         let same : text ≡ f.text = (let e = sym there ∙ text_there in cc) in
         let no : Some (map bare_item items) ≡ None = sym parsed ∙ ap (λ t. items_said (w.answers.parsed (relative_to_root w f.path) t)) (sym same) ∙ ap items_said none in cc

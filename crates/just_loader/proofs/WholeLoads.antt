@@ -1,5 +1,5 @@
 -- What is loaded, from what is scanned, unfolded and parsed.
-use Rattle.std.proofs.Common.{◌≡◌, ℕ, ◌<◌, ◌≤◌, ◌^◌, false, List, map, length, Some, IsSome, Result, Ok, Err, IfOk, IfErr, sym, ap, subst, ◌∙◌, arith}
+use Rattle.std.proofs.Common.{◌≡◌, ℕ, ◌<◌, ◌≤◌, ◌^◌, false, List, map, length, Some, IsSome, Result, Ok, Err, IfOk, IfErr, refl, sym, ap, subst, ◌∙◌, arith}
 use Rattle.std.specs.List.{slice_get}
 use Rattle.std.specs.declared.vec.Vec.{Vec}
 use Rattle.std.specs.declared.alloc.Global.{Global}
@@ -13,19 +13,20 @@ use Rattle.just_errors.specs.declared.error.Error.{Error}
 use Rattle.just_errors.specs.declared.error.Error.TheVariants as error
 use Rattle.just_parts.specs.Asts.{AstKey}
 use Rattle.just_errors.specs.Causes.{Keeps, Reports}
-use Rattle.just_loader.specs.FileCircles.{LeadsOn, NamesCircle}
-use Rattle.just_loader.specs.Keys.{FileKey, NamesInFiles}
+use Rattle.just_loader.specs.FileCircles.{FileLeadsOn, BreaksCircle}
+use Rattle.just_loader.specs.Keys.{FileKey, BreaksFiles}
 use Rattle.just_loader.specs.Loaded.{Loads}
 use Rattle.just_loader.specs.Placed.{name_at}
 use Rattle.just_loader.specs.Loading.{AreParsed, Stops, spent_by}
 use Rattle.just_loader.specs.Parsed.{AreKeyed}
-use Rattle.just_loader.specs.Reached.{World, Reached, NamesInScan}
+use Rattle.just_loader.specs.Reached.{World, IsReachedFile, BreaksInScan}
 use Rattle.just_loader.specs.Scanned.{IsScan}
 use Rattle.just_loader.specs.Sources.{text_at}
 use Rattle.just_loader.specs.declared.loaded.Loaded.{Loaded}
 use Rattle.just_loader.specs.declared.scanned.Scan.{Scan}
+use Rattle.just_loader.specs.declared.scanned.ScannedFile.{ScannedFile}
 use Rattle.just_loader.proofs.KeySums.{node_inside, one_place, many, files_kept}
-use Rattle.just_loader.proofs.Numberings.{read_at}
+use Rattle.just_loader.proofs.Numberings.{get_map, read_at}
 
 -- what unfolding tells of the nodes
 pub record IsWhole (rows : List (Vec Step Global)) (us : List Unfolded) : Type 0 where
@@ -36,14 +37,22 @@ pub record IsWhole (rows : List (Vec Step Global)) (us : List Unfolded) : Type 0
 pub whole_lent : {rows lent : List (Vec Step Global)} {us shown : List Unfolded} → lent ≡ rows → shown ≡ us → IsWhole lent us → IsWhole rows shown
 whole_lent {rows} {lent} {us} {shown} e f whole = subst (IsWhole rows) (sym f) (subst (λ r. IsWhole r us) e whole)
 
+-- the root is there
+root_there : (w : World) (scan : Scan) → IsScan w scan → IsSome (text_at w.files w.root)
+root_there w scan is =
+    let file = get_map (λ (f : ScannedFile). f.path) scan.files.items 0 w.root is.root in
+    let row = read_at scan.rows.items 0 (omega (arith, is.count, slice_get_within scan.files.items 0 file.0 file.1)) in
+    let text : text_at w.files file.0.path ≡ Some file.0.text = (is.scanned 0 file.0 row.0 file.1 row.1).text in
+    subst (λ p. IsSome (text_at w.files p)) file.2 (subst IsSome (sym text) refl)
+
 module _ (w : World) (scan : Scan) (is : IsScan w scan) (us : List Unfolded) (whole : IsWhole scan.rows.items us) where
   -- an error of parsing
-  pub stop_named : Keeps (NamesInScan w) → Keeps (NamesCircle w) → (e : Error) → Stops w scan us e → Reports (NamesInFiles w) e
+  pub stop_named : Keeps (BreaksInScan w) → Keeps (BreaksCircle w) → (e : Error) → Stops w scan us 0 e → Reports (BreaksFiles w) e
   stop_named kept straight (error.Load e) h = absurd h
   stop_named kept straight (error.Compile e) h = absurd h
   stop_named kept straight (error.Invocation e) h = absurd h
   stop_named kept straight (error.Run e) h = absurd h
-  stop_named kept straight error.Exhausted h = many w scan is us whole.keys whole.once kept straight h.0 h.2
+  stop_named kept straight error.Exhausted h = many w scan is us whole.keys whole.once kept straight h.0 (omega (arith, h.2))
   stop_named kept straight error.Memory h = tt
 
   pub nodes_inside : (k : ℕ) (u : Unfolded) → slice_get us k ≡ Some u → u.node < length scan.files.items
@@ -63,10 +72,10 @@ module _ (w : World) (scan : Scan) (is : IsScan w scan) (us : List Unfolded) (wh
         λ j. record { components = texts j; spaced = spaced j };
   }
 
-  pub are_kept : IsSome (text_at w.files w.root) → Keeps (NamesInScan w) → ((f : List ℕ) → Reached w f → LeadsOn w f f → ⊥) → spent_by w scan us ≤ 2 ^ 64 → Keeps (NamesInFiles w)
-  are_kept there kept none total = files_kept w scan is us whole.keys whole.once there kept none total
+  pub are_kept : Keeps (BreaksInScan w) → ((f : List ℕ) → IsReachedFile w f → FileLeadsOn w f f → ⊥) → spent_by w scan us ≤ 2 ^ 64 → Keeps (BreaksFiles w)
+  are_kept kept none total = files_kept w scan is us whole.keys whole.once (root_there w scan is) kept none total
 
 -- a rule that is broken
-pub refused : (w : World) (r : Result Loaded Error) → IfOk r (λ _. ⊥) → IfErr r (Reports (NamesInFiles w)) → Loads w r
+pub refused : (w : World) (r : Result Loaded Error) → IfOk r (λ _. ⊥) → IfErr r (Reports (BreaksFiles w)) → Loads w r
 refused w (Ok l) none named = absurd none
 refused w (Err e) none named = record { kept = tt; loaded = tt; named = named }

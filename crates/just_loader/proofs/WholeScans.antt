@@ -22,7 +22,7 @@ use Rattle.just_parts.specs.Items.{Item}
 use Rattle.just_ast_items.specs.Edge.{Edge, Imports, Declares, edge_of}
 use Rattle.just_loader.specs.Links.{Link, Nowhere, To, Fault}
 use Rattle.just_loader.specs.Numbering.{AreFound, paths_of}
-use Rattle.just_loader.specs.Reached.{World, Reached, from_root, from_file, items_of, link, LeadsTo, NamesAt, NamesInScan}
+use Rattle.just_loader.specs.Reached.{World, IsReachedFile, from_root, from_file, items_of, link, FileLeadsTo, BreaksAt, BreaksInScan}
 use Rattle.just_errors.specs.Causes.{Cause}
 use Rattle.just_loader.specs.Scanned.{IsPlaceOf, ArePlacesOf, IsStepTo, IsStepOf, AreSteps, IsScanned, AreScanned, IsScan, paths_in, Grows, Extends}
 use Rattle.just_loader.specs.Sources.{Files}
@@ -36,19 +36,19 @@ use Rattle.just_loader.proofs.Scanning.{places_more, steps_more}
 -- The files so far: those that are found are reached, and the first of them are scanned.
 pub record ScannedSoFar (w : World) (paths : List (List ℕ)) (names : List Name) (files : List ScannedFile) (rows : List (Vec Step Global)) : Type 0 where
   pub first : slice_get paths 0 ≡ Some w.root
-  pub reached : (path : List ℕ) → Contains paths path → Reached w path
+  pub reached : (path : List ℕ) → Contains paths path → IsReachedFile w path
   pub count : length rows ≡ length files
   pub within : length files ≤ length paths
   pub at : (k : ℕ) (file : ScannedFile) → slice_get files k ≡ Some file → slice_get paths k ≡ Some file.path
   pub scanned : AreScanned w paths names files rows
-  pub kept : (k : ℕ) (file : ScannedFile) → slice_get files k ≡ Some file → (c : Cause) → NamesAt w file.path c → ⊥
+  pub kept : (k : ℕ) (file : ScannedFile) → slice_get files k ≡ Some file → (c : Cause) → BreaksAt w file.path c → ⊥
 
 only_one : (path : List ℕ) (paths : List (List ℕ)) (place : ℕ) → (paths ≡ []) ⊎ (paths ≡ path ∷ []) → slice_get paths place ≡ Some path → paths ≡ path ∷ []
 only_one path paths place (inl e) at = absurd (none_some (ap (λ ps. slice_get ps place) (sym e) ∙ at))
 only_one path paths place (inr e) at = e
 
-alone : (w : World) (path : List ℕ) → Contains (w.root ∷ []) path → Reached w path
-alone w path c = elim (is_in path (w.root ∷ []) c) [ inl e ↦ subst (Reached w) (sym e) from_root | inr h ↦ absurd h ]
+alone : (w : World) (path : List ℕ) → Contains (w.root ∷ []) path → IsReachedFile w path
+alone w path c = elim (is_in path (w.root ∷ []) c) [ inl e ↦ subst (IsReachedFile w) (sym e) from_root | inr h ↦ absurd h ]
 
 -- what has a text is there
 pub text_file : (o : Option SourceFile) → IsSome (option_map (λ (f : SourceFile). f.text) o) → IsSome o
@@ -87,10 +87,10 @@ scanned_on w paths paths' names names' file row g h s =
 
 -- one more file is scanned
 pub scan_one : (w : World) (paths paths' : List (List ℕ)) (names names' : List Name) (files files' : List ScannedFile) (rows rows' : List (Vec Step Global)) (f : SourceFile) (s : ScannedFile) (row : Vec Step Global)
-    → ScannedSoFar w paths names files rows → slice_get paths (length files) ≡ Some f.path → s.path ≡ f.path → IsScanned w paths' names' s row.items → ((c : Cause) → NamesAt w f.path c → ⊥)
-    → Grows (LeadsTo w f.path) paths paths' → Extends names names' → files' ≡ files ++ s ∷ [] → rows' ≡ rows ++ row ∷ [] → ScannedSoFar w paths' names' files' rows'
+    → ScannedSoFar w paths names files rows → slice_get paths (length files) ≡ Some f.path → s.path ≡ f.path → IsScanned w paths' names' s row.items → ((c : Cause) → BreaksAt w f.path c → ⊥)
+    → Grows (FileLeadsTo w f.path) paths paths' → Extends names names' → files' ≡ files ++ s ∷ [] → rows' ≡ rows ++ row ∷ [] → ScannedSoFar w paths' names' files' rows'
 scan_one w paths paths' names names' files files' rows rows' f s row so at path scanned kept grows extends is_files is_rows =
-    let here : Reached w f.path = so.reached f.path (got paths (length files) f.path at) in
+    let here : IsReachedFile w f.path = so.reached f.path (got paths (length files) f.path at) in
     let inside : length files < length paths = slice_get_within paths (length files) f.path at in
     let stays : (k : ℕ) (p : List ℕ) → slice_get paths k ≡ Some p → slice_get paths' k ≡ Some p = λ k p e. ap (λ ps. slice_get ps k) grows.1 ∙ get_more paths grows.0 k p e in
     record {
@@ -119,7 +119,7 @@ scan_one w paths paths' names names' files files' rows rows' f s row so at path 
       ];
       kept = λ k file e. elim (get_cases files s file k (ap (λ fs. slice_get fs k) (sym is_files) ∙ e)) [
         | inl old ↦ so.kept k file old
-        | inr new ↦ subst (λ p. (c : Cause) → NamesAt w p c → ⊥) (sym path ∙ ap (λ (x : ScannedFile). x.path) new.1) kept
+        | inr new ↦ subst (λ p. (c : Cause) → BreaksAt w p c → ⊥) (sym path ∙ ap (λ (x : ScannedFile). x.path) new.1) kept
       ];
     }
 
@@ -186,7 +186,7 @@ module _ (w : World) (paths : List (List ℕ)) (names : List Name) (files : List
       let row = read_at rows k.0 (omega (arith, so.count)) in
       (k.0, file.0, row.0, some_same (sym (so.at k.0 file.0 file.1) ∙ k.1), file.1, so.scanned k.0 file.0 row.0 file.1 row.1)
 
-  closed : (p q : List ℕ) → Contains paths p → LeadsTo w p q → Contains paths q
+  closed : (p q : List ℕ) → Contains paths p → FileLeadsTo w p q → Contains paths q
   closed p q c l =
       let s = scanned_at p c in let file = s.1 in let is = s.5 in
       let same : l.has.0 ≡ is.items = (let e = sym l.has.1 ∙ ap (items_of w) (sym s.3) ∙ is.parsed in cc) in
@@ -195,14 +195,14 @@ module _ (w : World) (paths : List (List ℕ)) (names : List Name) (files : List
       map_get (link w (folder_of file.path)) is.items at.0 l.item at.1 ∙ ap Some (ap (λ x. link w (folder_of x) l.item) s.3 ∙ l.leads) in
       place_of_link paths (map (link w (folder_of file.path)) is.items) file.targets.items at.0 q is.targets to
 
-  all_reached : (p : List ℕ) → Reached w p → Contains paths p
+  all_reached : (p : List ℕ) → IsReachedFile w p → Contains paths p
   all_reached _ from_root = got paths 0 w.root so.first
   all_reached _ (from_file {f} {g} r l) = closed f g (all_reached f r) l
 
-  pub none_in_scan : (c : Cause) → NamesInScan w c → ⊥
+  pub none_in_scan : (c : Cause) → BreaksInScan w c → ⊥
   none_in_scan c n =
       let s = scanned_at n.path (all_reached n.path n.reached) in
-      so.kept s.0 s.1 s.4 c (subst (λ p. NamesAt w p c) (sym s.3) n.at_fault)
+      so.kept s.0 s.1 s.4 c (subst (λ p. BreaksAt w p c) (sym s.3) n.at_fault)
 
   step_inside : (a b : ℕ) → HasStep rows a b → b < length rows
   step_inside a b h =

@@ -49,15 +49,20 @@ changed f [] k i h e = absurd (omega (arith, h))
 changed f (x ∷ is) zero i h e = ap (λ y. f y ∷ is) e
 changed f (x ∷ is) (suc k) i h e = ap (λ ys. f x ∷ ys) (changed f is k i (omega (arith, h)) e)
 
+pub half_more : (f : Item → Item) (is : List Item) (k : ℕ) (old : List Item) (i made : Item) → k < length is → old ≡ half f is k → i ≡ get_or old k i → made ≡ f i → set old k made ≡ half f is (k + 1)
+half_more f is k old i made within was here e =
+    let now : i ≡ get_or (half f is k) k i = here ∙ ap (λ xs. get_or xs k i) was in
+    let next : suc k ≡ k + 1 = omega arith in
+    ap (λ xs. set xs k made) was ∙ ap (set (half f is k) k) e ∙ changed f is k i within now ∙ ap (half f is) next
+
 -- one more item
 pub paths_more : (w : World) (scan : Scan) (folder : List ℕ) (items : List Item) (ts : List (Option ℕ)) (k : ℕ) (old : List Item) (i made : Item)
     → ArePlacesOf (paths_in scan.files.items) (map (link w folder) items) ts → k < length items → old ≡ half (with_path w folder) items k → i ≡ get_or old k i
     → made ≡ with_absolute (option_map (file_at scan) (get_or ts k None)) i → set old k made ≡ half (with_path w folder) items (k + 1)
 paths_more w scan folder items ts k old i made places within was here is =
     let now : i ≡ get_or (half (with_path w folder) items k) k i = here ∙ ap (λ xs. get_or xs k i) was in
-    let next : suc k ≡ k + 1 = omega arith in
     let place = place_here (paths_in scan.files.items) (link w folder) (with_path w folder) items ts k i places within now in
-    ap (λ xs. set xs k made) was ∙ ap (set (half (with_path w folder) items k) k) (is ∙ path_shown w scan folder i (get_or ts k None) place) ∙ changed (with_path w folder) items k i within now ∙ ap (half (with_path w folder) items) next
+    half_more (with_path w folder) items k old i made within was here (is ∙ path_shown w scan folder i (get_or ts k None) place)
 
 -- all of them
 pub all_linked : (w : World) (scan : Scan) (folder : List ℕ) (ts : List (Option ℕ)) (items lent new made : List Item)

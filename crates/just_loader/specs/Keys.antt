@@ -12,9 +12,9 @@ use Rattle.just_names.specs.declared.name.Name.{Name}
 use Rattle.just_names.specs.Texts.{Text}
 use Rattle.just_parts.specs.Items.{Item}
 use Rattle.just_errors.specs.Causes.{Cause, Keeps, NoFile, NoNumber}
-use Rattle.just_loader.specs.FileCircles.{NamesCircle}
+use Rattle.just_loader.specs.FileCircles.{BreaksCircle}
 use Rattle.just_loader.specs.Links.{Link, Nowhere, To, Fault}
-use Rattle.just_loader.specs.Reached.{World, items_of, link, relative_to_root, NamesInScan}
+use Rattle.just_loader.specs.Reached.{World, items_of, link, relative_to_root, BreaksInScan}
 use Rattle.just_loader.specs.Sources.{text_at}
 
 -- the items of the file at a path
@@ -90,8 +90,8 @@ abbrev pub SpendsAt : World → Text → ℕ → ℕ → Type 0
 SpendsAt w f low high = high ≡ low + spends_at w f
 
 -- What is broken in the group of files: the root is no file, a reached file is at fault, one leads back to itself, or where no file is at fault and none leads back the texts of some keys take more numbers than there are.
-pub data NamesInFiles (w : World) : Cause → Type 0 where
-  no_root : {path : Text} → text_at w.files w.root ≡ None → w.root ≡ path → NamesInFiles w (NoFile path)
-  at_fault : {c : Cause} → NamesInScan w c → NamesInFiles w c
-  in_circle : {c : Cause} → NamesCircle w c → NamesInFiles w c
-  too_many : Keeps (NamesInScan w) → Keeps (NamesCircle w) → (keys : List FileKey) → AreApart keys → ((k : FileKey) → Contains keys k → IsKey w k) → 2 ^ 64 < sum_by (λ (k : FileKey). spends_at w k.node) keys → NamesInFiles w NoNumber
+pub data BreaksFiles (w : World) : Cause → Type 0 where
+  no_root : {path : Text} → text_at w.files w.root ≡ None → w.root ≡ path → BreaksFiles w (NoFile path)
+  at_fault : {c : Cause} → BreaksInScan w c → BreaksFiles w c
+  in_circle : {c : Cause} → BreaksCircle w c → BreaksFiles w c
+  too_many : Keeps (BreaksInScan w) → Keeps (BreaksCircle w) → (keys : List FileKey) → AreApart keys → ((k : FileKey) → Contains keys k → IsKey w k) → 2 ^ 64 < sum_by (λ (k : FileKey). spends_at w k.node) keys → BreaksFiles w NoNumber

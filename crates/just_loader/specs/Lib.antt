@@ -8,5 +8,6 @@ pub mod Numbering
 pub mod Parsed
 pub mod Placed
 pub mod Reached
+pub mod Reading
 pub mod Scanned
 pub mod Sources

@@ -17,7 +17,7 @@ use Rattle.just_names.specs.declared.name.Namepath.{Namepath}
 use Rattle.just_parts.specs.Items.{Ast, Item}
 use Rattle.just_errors.specs.declared.error.Error.{Error}
 use Rattle.just_source.specs.declared.source.Source.{Source}
-use Rattle.just_loader.specs.Keys.{AreFirstFiles, FileKey, FileNode, FileStep, IsKey, IsLeastFileDepth, NamesInFiles, ast_key}
+use Rattle.just_loader.specs.Keys.{AreFirstFiles, FileKey, FileNode, FileStep, IsKey, IsLeastFileDepth, BreaksFiles, ast_key}
 use Rattle.just_loader.specs.Links.{Link, Nowhere, To, Fault}
 use Rattle.just_loader.specs.Reached.{World, ast_of, link, relative_to_root}
 use Rattle.just_loader.specs.declared.loaded.Loaded.{Loaded}
@@ -97,6 +97,6 @@ pub record IsLoaded (w : World) (asts : AstKey → Option Ast) (loaded : List Te
 
 -- What loading answers: no rule of files is broken, and the files are loaded; or a rule that is broken.
 pub record Loads (w : World) (result : Result Loaded Error) : Type 0 where
-  pub kept : IfOk result (λ _. Keeps (NamesInFiles w))
+  pub kept : IfOk result (λ _. Keeps (BreaksFiles w))
   pub loaded : IfOk result (λ (l : Loaded). IsLoaded w (get same_ast_key l.asts) l.loaded)
-  pub named : IfErr result (Reports (NamesInFiles w))
+  pub named : IfErr result (Reports (BreaksFiles w))

@@ -1,13 +1,13 @@
 -- The steps of loading: how each node's file comes in, and what its text says.
 use Rattle.std.specs.Prelude.{◌≡◌, ℕ, ◌+◌, ◌<◌, ◌≤◌, ◌^◌, List, [], ◌∷◌, ◌++◌, map, take, length, slice_get, Option, Some, None}
-use Rattle.std.specs.List.{All, flat_map, sum_by}
+use Rattle.std.specs.List.{All, sum_by}
 use Rattle.just_graph.specs.Unfolding.{Node, AreFirst, offsets_after, steps}
 use Rattle.just_graph.specs.Unfolded.{AreLeast, AllTold, IsUnfolded}
 use Rattle.just_graph.specs.declared.unfolding.Step.{Step}
 use Rattle.just_graph.specs.declared.unfolding.Unfolded.{Unfolded}
 use Rattle.just_parts.specs.Bare.{bare_ast}
 use Rattle.just_paths.specs.Clean.{folder_of}
-use Rattle.just_parts.specs.Syntax.{SyntaxAnswers, AreNoConstants, AreRising, AttributesNameParameters, IsFrom, PriorsAreDependencies, components_of, numbers}
+use Rattle.just_parts.specs.Syntax.{SyntaxAnswers, AreNoConstants, AttributesNameParameters, IsFrom, PriorsAreDependencies, components_of, numbers}
 use Rattle.just_names.specs.Texts.{Text}
 use Rattle.just_parts.specs.Items.{Ast, Item}
 use Rattle.just_errors.specs.declared.error.Error.{Error}
@@ -114,22 +114,19 @@ StopsAt given spends error.Memory = Unit {0}
 abbrev pub StopsInFile : Scan → SyntaxAnswers → ℕ → ℕ → Error → Type 0
 StopsInFile scan answers place given e = InWorlds scan answers (λ w. StopsAt given (spends_at w (file_at scan place)) e)
 
--- the same of the first texts of elements together
-abbrev pub Stops : World → Scan → List Unfolded → Error → Type 0
-Stops w scan us (error.Load e) = ⊥
-Stops w scan us (error.Compile e) = ⊥
-Stops w scan us (error.Invocation e) = ⊥
-Stops w scan us (error.Run e) = ⊥
-Stops w scan us error.Exhausted = (k : ℕ) × (k ≤ length us) × (2 ^ 64 < spent_by w scan (take k us))
-Stops w scan us error.Memory = Unit {0}
+-- the same of the first texts of elements together, after those that were given before
+abbrev pub Stops : World → Scan → List Unfolded → ℕ → Error → Type 0
+Stops w scan us given (error.Load e) = ⊥
+Stops w scan us given (error.Compile e) = ⊥
+Stops w scan us given (error.Invocation e) = ⊥
+Stops w scan us given (error.Run e) = ⊥
+Stops w scan us given error.Exhausted = (k : ℕ) × (k ≤ length us) × (2 ^ 64 < given + spent_by w scan (take k us))
+Stops w scan us given error.Memory = Unit {0}
 
 -- items with the paths of the files at the places beside them
 abbrev pub HavePaths : Scan → List (Option ℕ) → List Item → List Item → Type 0
 HavePaths scan targets items made = (w : World) (folder : Text) → ArePlacesOf (paths_in scan.files.items) (map (link w folder) items) targets → made ≡ map (with_path w folder) items
 
--- what the text of each node says, in each world that the scan is of, and that its numbers rise
+-- what the text of each node says, in each world that the scan is of
 abbrev pub AreParsedBy : SyntaxAnswers → Scan → List Unfolded → List Ast → Type 0
 AreParsedBy answers scan us asts = (w : World) (ns : List Node) → IsScanBy w scan answers → AreNodes scan us ns → AreParsed w scan ns asts
-
-abbrev pub AreNumberedBy : SyntaxAnswers → Scan → List Unfolded → List Ast → Type 0
-AreNumberedBy answers scan us asts = (w : World) → IsScanBy w scan answers → AreRising 0 (flat_map (λ (ast : Ast). numbers ast.items) asts) (spent_by w scan us)

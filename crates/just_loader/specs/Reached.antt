@@ -49,15 +49,15 @@ abbrev pub HasItem : World → Text → Item → Type 0
 HasItem w f item = (items : List Item) × (items_of w f ≡ Some items) × Contains items item
 
 -- an item of f leads to g
-pub record LeadsTo (w : World) (f g : Text) : Type 0 where
+pub record FileLeadsTo (w : World) (f g : Text) : Type 0 where
   pub item : Item
   pub has : HasItem w f item
   pub leads : link w (folder_of f) item ≡ To g
 
 -- the root, and what reached files lead to
-pub data Reached (w : World) : Text → Type 0 where
-  from_root : Reached w w.root
-  from_file : {f g : Text} → Reached w f → LeadsTo w f g → Reached w g
+pub data IsReachedFile (w : World) : Text → Type 0 where
+  from_root : IsReachedFile w w.root
+  from_file : {f g : Text} → IsReachedFile w f → FileLeadsTo w f g → IsReachedFile w g
 
 -- a place in the text of the file at a path
 pub record IsInText (w : World) (path text : Text) (place : Place) : Type 0 where
@@ -65,14 +65,14 @@ pub record IsInText (w : World) (path text : Text) (place : Place) : Type 0 wher
   pub src_is : place.src ≡ text
 
 -- The text of a file does not follow the grammar, which is told in that file, or takes more numbers than there are, or an item is at fault.
-pub data NamesAt (w : World) (path : Text) : Cause → Type 0 where
+pub data BreaksAt (w : World) (path : Text) : Cause → Type 0 where
   no_grammar : {place : Place} (text : Text) → text_at w.files path ≡ Some text → w.answers.parsed (relative_to_root w path) text ≡ None → IsInText w path text place
-      → NamesAt w path (Broken place kind.Syntax)
-  no_number : (text : Text) → text_at w.files path ≡ Some text → 2 ^ 64 < w.answers.spends (relative_to_root w path) text → NamesAt w path NoNumber
-  in_item : {c : Cause} (item : Item) → HasItem w path item → link w (folder_of path) item ≡ Fault c → NamesAt w path c
+      → BreaksAt w path (Broken place kind.Syntax)
+  no_number : (text : Text) → text_at w.files path ≡ Some text → 2 ^ 64 < w.answers.spends (relative_to_root w path) text → BreaksAt w path NoNumber
+  in_item : {c : Cause} (item : Item) → HasItem w path item → link w (folder_of path) item ≡ Fault c → BreaksAt w path c
 
 -- What is at fault with a reached file.
-pub record NamesInScan (w : World) (c : Cause) : Type 0 where
+pub record BreaksInScan (w : World) (c : Cause) : Type 0 where
   pub path : Text
-  pub reached : Reached w path
-  pub at_fault : NamesAt w path c
+  pub reached : IsReachedFile w path
+  pub at_fault : BreaksAt w path c

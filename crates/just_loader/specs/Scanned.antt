@@ -14,7 +14,7 @@ use Rattle.just_names.specs.Texts.{Text}
 use Rattle.just_parts.specs.Items.{Item}
 use Rattle.just_loader.specs.Links.{Link, Nowhere, To, Fault}
 use Rattle.just_loader.specs.Numbering.{IsNamed, paths_found}
-use Rattle.just_loader.specs.Reached.{World, Reached, items_of, link, relative_to_root}
+use Rattle.just_loader.specs.Reached.{World, IsReachedFile, items_of, link, relative_to_root}
 use Rattle.just_loader.specs.Sources.{text_at}
 use Rattle.just_loader.specs.declared.found.Found.{Found}
 use Rattle.just_loader.specs.declared.found.NameNumbers.{NameNumbers}
@@ -83,7 +83,7 @@ AreScanned w paths names files rows = (k : ℕ) (file : ScannedFile) (row : Vec 
 
 -- The reached files, each once and under a clean path, the root first, each with its row, whose steps lead to rows.
 pub record IsScan (w : World) (scan : Scan) : Type 0 where
-  pub reached : (path : Text) → Contains (paths_in scan.files.items) path ↔ Reached w path
+  pub reached : (path : Text) → Contains (paths_in scan.files.items) path ↔ IsReachedFile w path
   pub once : AreApart (paths_in scan.files.items)
   pub clean : All IsClean (paths_in scan.files.items)
   pub root : slice_get (paths_in scan.files.items) 0 ≡ Some w.root

@@ -2,8 +2,8 @@
 
 ghost use Rattle.std.specs.Prelude.{◌≡◌, ◌<◌, ℕ, List, Some, length, slice_get, IfOk, IfErr, OnOk};
 ghost use Rattle.just_graph.specs.Unfolding.{IsOrdered};
-ghost use Rattle.just_loader.specs.FileCircles.{HasRows, LeadsOn, NamesCircle};
-ghost use Rattle.just_loader.specs.Reached.{World, Reached};
+ghost use Rattle.just_loader.specs.FileCircles.{HasRows, FileLeadsOn, BreaksCircle};
+ghost use Rattle.just_loader.specs.Reached.{World, IsReachedFile};
 ghost use Rattle.just_errors.specs.Causes.{Reports};
 ghost use Rattle.just_loader.specs.Scanned.{IsScan, paths_in};
 
@@ -27,8 +27,8 @@ fn path_at<'src>(alloc: Global, scan: &Scan<'src>, place: usize) -> Result<Text,
 pub(crate) fn check_circles<'src>(alloc: Global, scan: &Scan<'src>) -> Result<(), Error<'src>>
     requires { HasRows scan.now }
     ensures ordered { OnOk result (IsOrdered scan.now.rows.items 0) }
-    ensures none { OnOk result ((w : World) → IsScan w scan.now → (f : List ℕ) → Reached w f → LeadsOn w f f → ⊥) }
-    ensures named { IfErr result (λ e. (w : World) → IsScan w scan.now → Reports (NamesCircle w) e) }
+    ensures none { OnOk result ((w : World) → IsScan w scan.now → (f : List ℕ) → IsReachedFile w f → FileLeadsOn w f f → ⊥) }
+    ensures named { IfErr result (λ e. (w : World) → IsScan w scan.now → Reports (BreaksCircle w) e) }
 {
     let edges = edges(alloc, scan.rows.as_slice())?;
     let circle = match order(alloc, edges.as_slice(), [0].as_slice())? {

@@ -2,16 +2,17 @@
 #![tactic(auto)]
 
 mod circles;
+pub mod files;
 mod found;
 mod links;
 pub mod loaded;
-pub mod loading;
 mod module_file;
+mod reading;
 mod scan;
 mod scanned;
 pub mod sources;
 
+pub use files::load;
 pub use loaded::Loaded;
-pub use loading::load;
 pub use module_file::{find_module_file, relative_path};
 pub use sources::Sources;

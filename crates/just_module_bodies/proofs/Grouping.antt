@@ -22,7 +22,7 @@ use Rattle.just_parts.specs.Syntax.{SyntaxAnswers}
 use Rattle.just_recipe.specs.declared.dependency.UnresolvedDependency.{UnresolvedDependency}
 use Rattle.just_recipe.specs.declared.recipe.Recipe.{Recipe}
 use Rattle.just_module_contents.specs.Recipes.{name_of, recipe_at}
-use Rattle.just_module_contents.specs.Shells.{FirstLine, Lines, ScriptAttribute, ShellRecipe, Shells, extra_whitespace, guard_and_infallible, invalid_attribute, is_of_scripts, of_attributes, of_line, of_lines, of_recipe}
+use Rattle.just_module_contents.specs.Shells.{BreaksFirstLine, BreaksLines, ScriptAttribute, BreaksShellRecipe, BreaksShells, extra_whitespace, guard_and_infallible, invalid_attribute, is_of_scripts, of_attributes, of_line, of_lines, of_recipe}
 
 -- equal sigils are the same
 same_sigil : (a b : Sigil) → eq-value.it b a ≡ true → a ≡ b
@@ -53,12 +53,12 @@ stands_not xs s e c = false≢true (sym e ∙ list_any_at (λ f. eq-value.it f s
 
 module _ (answers : SyntaxAnswers) (settings : Settings) where
   -- a line that begins with no text, one with both sigils, an indented one, and one that is kept
-  pub no_text : (line : Line) → front line.fragments ≡ None → Keeps (FirstLine answers settings line)
+  pub no_text : (line : Line) → front line.fragments ≡ None → Keeps (BreaksFirstLine answers settings line)
   no_text line none _ (guard_and_infallible at guard infallible) = cc
   no_text line none _ (extra_whitespace at indented) = cc
 
   pub first_kept : (line : Line) (here : Place) → front line.fragments ≡ Some here → (Contains (answers.sigils line settings) sigil.Guard → Contains (answers.sigils line settings) sigil.Infallible → ⊥)
-      → is_indented (lexeme here) ≡ false → Keeps (FirstLine answers settings line)
+      → is_indented (lexeme here) ≡ false → Keeps (BreaksFirstLine answers settings line)
   first_kept line here is apart plain _ (guard_and_infallible at guard infallible) = apart guard infallible
   first_kept line here is apart plain _ (extra_whitespace {token} at indented) =
       false≢true (sym plain ∙ ap (λ (t : Place). is_indented (lexeme t)) (some_same (sym is ∙ at)) ∙ indented)
@@ -109,29 +109,29 @@ module _ (answers : SyntaxAnswers) (settings : Settings) where
 
   -- the lines so far that begin a group are kept
   abbrev pub FirstsKept : List Line → ℕ → Type 0
-  FirstsKept body n = (k : ℕ) (line : Line) → k < n → BeginsGroup answers settings body k → slice_get body k ≡ Some line → Keeps (FirstLine answers settings line)
+  FirstsKept body n = (k : ℕ) (line : Line) → k < n → BeginsGroup answers settings body k → slice_get body k ≡ Some line → Keeps (BreaksFirstLine answers settings line)
 
-  pub firsts_more : (body : List Line) (i : ℕ) (line : Line) → slice_get body i ≡ Some line → (BeginsGroup answers settings body i → Keeps (FirstLine answers settings line)) → FirstsKept body i → FirstsKept body (i + 1)
+  pub firsts_more : (body : List Line) (i : ℕ) (line : Line) → slice_get body i ≡ Some line → (BeginsGroup answers settings body i → Keeps (BreaksFirstLine answers settings line)) → FirstsKept body i → FirstsKept body (i + 1)
   firsts_more body i line at kept before k other h begins there = elim (cases_lt k i) [
     | inl l ↦ before k other l begins there
     | inr l ↦
         let same : k ≡ i = omega (arith, h, l) in
-        subst (λ (o : Line). Keeps (FirstLine answers settings o)) (some_same (sym at ∙ ap (slice_get body) (sym same) ∙ there)) (kept (subst (BeginsGroup answers settings body) same begins))
+        subst (λ (o : Line). Keeps (BreaksFirstLine answers settings o)) (some_same (sym at ∙ ap (slice_get body) (sym same) ∙ there)) (kept (subst (BeginsGroup answers settings body) same begins))
   ]
 
-  pub lines_kept : (body : List Line) (n : ℕ) → ((k : ℕ) (line : Line) → slice_get body k ≡ Some line → k < n) → FirstsKept body n → Keeps (Lines answers settings body)
+  pub lines_kept : (body : List Line) (n : ℕ) → ((k : ℕ) (line : Line) → slice_get body k ≡ Some line → k < n) → FirstsKept body n → Keeps (BreaksLines answers settings body)
   lines_kept body n all kept c (of_line {line} i begins at broken) = kept i line (all i line at) begins at c broken
 
   -- a recipe that is a script, and one that a shell runs
-  pub script_kept : (recipe : Recipe UnresolvedDependency) → is_script recipe settings ≡ true → Keeps (ShellRecipe answers settings recipe)
+  pub script_kept : (recipe : Recipe UnresolvedDependency) → is_script recipe settings ≡ true → Keeps (BreaksShellRecipe answers settings recipe)
   script_kept recipe is c (of_lines isnt b) = false≢true (sym isnt ∙ is)
   script_kept recipe is c (of_attributes isnt b) = false≢true (sym isnt ∙ is)
 
-  pub shell_kept : (recipe : Recipe UnresolvedDependency) → Keeps (Lines answers settings recipe.body) → Keeps (ScriptAttribute recipe) → Keeps (ShellRecipe answers settings recipe)
+  pub shell_kept : (recipe : Recipe UnresolvedDependency) → Keeps (BreaksLines answers settings recipe.body) → Keeps (ScriptAttribute recipe) → Keeps (BreaksShellRecipe answers settings recipe)
   shell_kept recipe lines attributes c (of_lines isnt b) = lines c b
   shell_kept recipe lines attributes c (of_attributes isnt b) = attributes c b
 
-  pub shells_kept : (recipes : List (Recipe UnresolvedDependency)) → ((k : ℕ) → k < length recipes → Keeps (ShellRecipe answers settings (recipe_at recipes k))) → Keeps (Shells answers settings recipes)
+  pub shells_kept : (recipes : List (Recipe UnresolvedDependency)) → ((k : ℕ) → k < length recipes → Keeps (BreaksShellRecipe answers settings (recipe_at recipes k))) → Keeps (BreaksShells answers settings recipes)
   shells_kept recipes each c (of_recipe i h b) = each i h c b
 
 -- isnt attribute is one of scripts, and one is

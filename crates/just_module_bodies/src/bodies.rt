@@ -7,7 +7,7 @@ ghost use Rattle.just_errors.specs.Causes.{Keeps, Reports};
 ghost use Rattle.just_module_contents.specs.Contents.{defined, defined_in, function_texts, texts_of_defined};
 ghost use Rattle.just_module_contents.specs.Definitions.{contents_in, lists_in};
 ghost use Rattle.just_names.specs.Index.{IsIndex};
-ghost use Rattle.just_module_contents.specs.Rules.{Bodies, Lists, Redefined, StandsFor};
+ghost use Rattle.just_module_contents.specs.Rules.{BreaksBodies, BreaksLists, BreaksRedefinition, StandsFor};
 
 use crate::shells::check_shells;
 use just_data::BorrowedText;
@@ -49,8 +49,8 @@ fn check_uses<'a, 'src>(
     alloc: Global,
     definitions: &Definitions<'src, 'a>,
 ) -> Result<(), Error<'src>>
-    ensures kept { OnOk result (Keeps (Lists false (function_texts (contents_in definitions.now)) (lists_in definitions.now))) }
-    ensures named { IfErr result (Reports (Lists false (function_texts (contents_in definitions.now)) (lists_in definitions.now))) }
+    ensures kept { OnOk result (Keeps (BreaksLists false (function_texts (contents_in definitions.now)) (lists_in definitions.now))) }
+    ensures named { IfErr result (Reports (BreaksLists false (function_texts (contents_in definitions.now)) (lists_in definitions.now))) }
 {
     let names = function_texts(alloc, definitions)?;
     let index = index_last(alloc, names.as_slice())?;
@@ -105,8 +105,8 @@ fn check_defined<'a, 'src>(
     definitions: &Definitions<'src, 'a>,
     allowed: bool,
 ) -> Result<(), Error<'src>>
-    ensures kept { OnOk result (Keeps (Redefined allowed (defined_in (contents_in definitions.now)))) }
-    ensures named { IfErr result (Reports (Redefined allowed (defined_in (contents_in definitions.now)))) }
+    ensures kept { OnOk result (Keeps (BreaksRedefinition allowed (defined_in (contents_in definitions.now)))) }
+    ensures named { IfErr result (Reports (BreaksRedefinition allowed (defined_in (contents_in definitions.now)))) }
 {
     let names = defined_names(alloc, definitions)?;
     let named = definitions.named.len();
@@ -129,8 +129,8 @@ pub fn check_bodies<'a, 'src, S: Syntax>(
     definitions: &Definitions<'src, 'a>,
     settings: &Settings,
 ) -> Result<(), Error<'src>>
-    ensures kept { OnOk result (Keeps (Bodies (S.answers syntax.now) settings.now (contents_in definitions.now))) }
-    ensures named { IfErr result (Reports (Bodies (S.answers syntax.now) settings.now (contents_in definitions.now))) }
+    ensures kept { OnOk result (Keeps (BreaksBodies (S.answers syntax.now) settings.now (contents_in definitions.now))) }
+    ensures named { IfErr result (Reports (BreaksBodies (S.answers syntax.now) settings.now (contents_in definitions.now))) }
 {
     if !settings.lists {
         check_uses(alloc, definitions)?;

@@ -3,7 +3,7 @@ ghost use Rattle.std.specs.Prelude.{◌≡◌, IfErr, OnOk};
 ghost use Rattle.just_errors.specs.Causes.{Keeps, Reports};
 ghost use Rattle.just_parts.specs.Groups.{front, is_indented, ends_group};
 ghost use Rattle.just_module_contents.specs.Definitions.{recipes_in};
-ghost use Rattle.just_module_contents.specs.Shells.{FirstLine, Lines, ScriptAttribute, ShellRecipe, Shells, is_of_scripts};
+ghost use Rattle.just_module_contents.specs.Shells.{BreaksFirstLine, BreaksLines, ScriptAttribute, BreaksShellRecipe, BreaksShells, is_of_scripts};
 
 use just_data::BorrowedText;
 use just_module_contents::definitions::Definitions;
@@ -38,8 +38,8 @@ fn check_first_line<'src, S: Syntax>(
     line: &Line<'src>,
     settings: &Settings,
 ) -> Result<(), Error<'src>>
-    ensures kept { OnOk result (Keeps (FirstLine (S.answers syntax.now) settings.now line.now)) }
-    ensures named { IfErr result (Reports (FirstLine (S.answers syntax.now) settings.now line.now)) }
+    ensures kept { OnOk result (Keeps (BreaksFirstLine (S.answers syntax.now) settings.now line.now)) }
+    ensures named { IfErr result (Reports (BreaksFirstLine (S.answers syntax.now) settings.now line.now)) }
 {
     let sigils = syntax.sigils(alloc, line, settings)?;
     let Some(token) = front(line) else {
@@ -74,8 +74,8 @@ fn check_lines<'src, S: Syntax>(
     lines: &[Line<'src>],
     settings: &Settings,
 ) -> Result<(), Error<'src>>
-    ensures kept { OnOk result (Keeps (Lines (S.answers syntax.now) settings.now lines.now)) }
-    ensures named { IfErr result (Reports (Lines (S.answers syntax.now) settings.now lines.now)) }
+    ensures kept { OnOk result (Keeps (BreaksLines (S.answers syntax.now) settings.now lines.now)) }
+    ensures named { IfErr result (Reports (BreaksLines (S.answers syntax.now) settings.now lines.now)) }
 {
     let mut begins = true;
     for place in 0..lines.len() {
@@ -123,8 +123,8 @@ fn check_shell<'src, S: Syntax>(
     recipe: &UnresolvedRecipe<'src>,
     settings: &Settings,
 ) -> Result<(), Error<'src>>
-    ensures kept { OnOk result (Keeps (ShellRecipe (S.answers syntax.now) settings.now recipe.now)) }
-    ensures named { IfErr result (Reports (ShellRecipe (S.answers syntax.now) settings.now recipe.now)) }
+    ensures kept { OnOk result (Keeps (BreaksShellRecipe (S.answers syntax.now) settings.now recipe.now)) }
+    ensures named { IfErr result (Reports (BreaksShellRecipe (S.answers syntax.now) settings.now recipe.now)) }
 {
     if recipe.is_script(settings) {
         return Ok(());
@@ -141,8 +141,8 @@ pub fn check_shells<'a, 'src, S: Syntax>(
     definitions: &Definitions<'src, 'a>,
     settings: &Settings,
 ) -> Result<(), Error<'src>>
-    ensures kept { OnOk result (Keeps (Shells (S.answers syntax.now) settings.now (recipes_in definitions.now))) }
-    ensures named { IfErr result (Reports (Shells (S.answers syntax.now) settings.now (recipes_in definitions.now))) }
+    ensures kept { OnOk result (Keeps (BreaksShells (S.answers syntax.now) settings.now (recipes_in definitions.now))) }
+    ensures named { IfErr result (Reports (BreaksShells (S.answers syntax.now) settings.now (recipes_in definitions.now))) }
 {
     for place in 0..definitions.recipes.len() {
         check_shell(alloc, syntax, definitions.recipe_at(place), settings)?;

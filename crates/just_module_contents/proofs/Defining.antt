@@ -21,10 +21,10 @@ use Rattle.just_module_contents.specs.declared.definitions.Naming.TheVariants as
 use Rattle.just_names.specs.Index.{texts_of_names, AreApart, AreDifferent, IsLast, NoneRepeats, Repeats, name_at}
 use Rattle.just_module_contents.specs.Recipes.{name_of, names_of}
 use Rattle.just_module_contents.specs.Settings.{Conflicts, allows_variables}
-use Rattle.just_module_contents.specs.Shells.{Shells}
+use Rattle.just_module_contents.specs.Shells.{BreaksShells}
 use Rattle.just_parts.specs.Syntax.{SyntaxAnswers}
 use Rattle.just_ast_expressions.specs.declared.settings.Settings.{Settings}
-use Rattle.just_module_contents.specs.Rules.{AssignedTwice, Bodies, Functions, Headers, IsRedefinition, Lists, Named, Names, Parameters, Redefined, Sets, Unexported, Unexports, Variables, assigned_twice, duplicate_unexport, duplicate_variable, export_unexported, of_defined, of_functions, of_lists, of_shells, of_variables, unexported, named_redefinition, of_named, of_parameters, of_sets, of_unexports, redefinition}
+use Rattle.just_module_contents.specs.Rules.{AssignedTwice, BreaksBodies, BreaksFunctions, BreaksHeaders, IsRedefinition, BreaksLists, BreaksNamings, BreaksDefinitions, BreaksParameters, BreaksRedefinition, BreaksSettings, Unexported, BreaksUnexports, BreaksVariables, assigned_twice, duplicate_unexport, duplicate_variable, export_unexported, of_defined, of_functions, of_lists, of_shells, of_variables, unexported, named_redefinition, of_named, of_parameters, of_sets, of_unexports, redefinition}
 
 -- what stands in the first list, and in the second
 get_left : {A : Type 0} (xs ys : List A) (i : ℕ) (x : A) → slice_get xs i ≡ Some x → slice_get (xs ++ ys) i ≡ Some x
@@ -47,13 +47,13 @@ texts_all ns rs = map-append (λ (d : Defined). text_of_name d.name) (map define
 
 -- two modules and aliases of one name
 pub named_again : (ns : List Naming) (i j : ℕ) (first second : Defined) (place : Place) (told : CompileErrorKind) → Repeats (texts_of_named ns) i j → slice_get (map defined_naming ns) i ≡ Some first → slice_get (map defined_naming ns) j ≡ Some second
-    → IsRedefinition first second place told → Named ns (Broken place told)
+    → IsRedefinition first second place told → BreaksNamings ns (Broken place told)
 named_again ns i j first second place told repeats a b is = named_redefinition (record { i = i; j = j; first = first; second = second; repeats = repeats; first_is = a; second_is = b; told_is = is })
 
 -- a variable that is unexported twice
 pub unexported_twice : (ns : List Name) (i j : ℕ) (second : Name) (place : Place) (variable : List ℕ) → Repeats (texts_of_names ns) i j → slice_get ns j ≡ Some second → place ≡ second.token → variable ≡ text_of_name second
-    → Unexports ns (Broken place (kind.DuplicateUnexport variable))
-unexported_twice ns i j second place variable repeats b at is = subst (Unexports ns) (λ k. Broken (sym at k) (kind.DuplicateUnexport (sym is k))) (duplicate_unexport i j repeats b)
+    → BreaksUnexports ns (Broken place (kind.DuplicateUnexport variable))
+unexported_twice ns i j second place variable repeats b at is = subst (BreaksUnexports ns) (λ k. Broken (sym at k) (kind.DuplicateUnexport (sym is k))) (duplicate_unexport i j repeats b)
 
 -- a variable that is assigned twice
 pub assigned_again : (ns : List Name) (i j : ℕ) (second : Name) (place : Place) (variable : List ℕ) → Repeats (texts_of_names ns) i j → slice_get ns j ≡ Some second → place ≡ second.token → variable ≡ text_of_name second
@@ -68,25 +68,25 @@ assigned_too ns us n name place v variable found at there named last e told is =
     subst (Unexported ns us) (λ k. Broken (sym told k) (kind.ExportUnexported (sym is k))) (export_unexported n at there s.0 (s.1 ∙ named))
 
 -- the variables of a module
-pub variables_kept : (allowed : Bool) (ns us : List Name) → (allowed ≡ false → AreDifferent (texts_of_names ns)) → AreApart (texts_of_names ns) (texts_of_names us) → Keeps (Variables allowed ns us)
+pub variables_kept : (allowed : Bool) (ns us : List Name) → (allowed ≡ false → AreDifferent (texts_of_names ns)) → AreApart (texts_of_names ns) (texts_of_names us) → Keeps (BreaksVariables allowed ns us)
 variables_kept allowed ns us different apart _ (assigned_twice off (duplicate_variable i j r e)) = different off i j r.apart r.within r.same
 variables_kept allowed ns us different apart _ (unexported (export_unexported {name} i j there inside same)) =
     let at = map_get text_of_name ns i name there in
     apart i j (slice_get_within (texts_of_names ns) i (text_of_name name) at) inside (get_or_from_slice_get (texts_of_names ns) i (text_of_name name) [] at ∙ sym same)
 
 -- the names of a module
-pub names_kept : (m : Contents) → Keeps (Variables (allows_variables m.sets) (variable_names m.variables) m.unexports) → Keeps (Functions (signatures m.functions)) → Keeps (Names m)
+pub names_kept : (m : Contents) → Keeps (BreaksVariables (allows_variables m.sets) (variable_names m.variables) m.unexports) → Keeps (BreaksFunctions (signatures m.functions)) → Keeps (BreaksDefinitions m)
 names_kept m variables functions c (of_variables b) = variables c b
 names_kept m variables functions c (of_functions b) = functions c b
 
 -- the bodies of a module
-pub bodies_kept : (answers : SyntaxAnswers) (s : Settings) (m : Contents) → Keeps (Lists s.lists (function_texts m) m.lists) → Keeps (Redefined s.allow_duplicate_recipes (defined_in m)) → Keeps (Shells answers s m.recipes) → Keeps (Bodies answers s m)
+pub bodies_kept : (answers : SyntaxAnswers) (s : Settings) (m : Contents) → Keeps (BreaksLists s.lists (function_texts m) m.lists) → Keeps (BreaksRedefinition s.allow_duplicate_recipes (defined_in m)) → Keeps (BreaksShells answers s m.recipes) → Keeps (BreaksBodies answers s m)
 bodies_kept answers s m lists defined shells c (of_lists b) = lists c b
 bodies_kept answers s m lists defined shells c (of_defined b) = defined c b
 bodies_kept answers s m lists defined shells c (of_shells b) = shells c b
 
 -- the headers of a module
-pub headers_kept : (conflicts : Conflicts) (m : Contents) → Keeps (Parameters m.recipes) → Keeps (Sets conflicts m.sets) → AreDifferent (texts_of_names m.unexports) → AreDifferent (texts_of_named m.named) → Keeps (Headers conflicts m)
+pub headers_kept : (conflicts : Conflicts) (m : Contents) → Keeps (BreaksParameters m.recipes) → Keeps (BreaksSettings conflicts m.sets) → AreDifferent (texts_of_names m.unexports) → AreDifferent (texts_of_named m.named) → Keeps (BreaksHeaders conflicts m)
 headers_kept conflicts m kept sets unexports named c (of_parameters h) = kept c h
 headers_kept conflicts m kept sets unexports named c (of_sets h) = sets c h
 headers_kept conflicts m kept sets unexports named _ (of_unexports (duplicate_unexport i j r e)) = unexports i j r.apart r.within r.same
@@ -138,7 +138,7 @@ module _ (ns : List Naming) (rs : List (Recipe UnresolvedDependency)) where
 
   -- two of one name
   pub defined_twice : (allowed : Bool) (i j bound : ℕ) (first second : Defined) (place : Place) (told : CompileErrorKind) → bound ≡ bound_of allowed → i < bound → Repeats (texts_of_defined (all_defined ns rs)) i j → slice_get (all_defined ns rs) i ≡ Some first → slice_get (all_defined ns rs) j ≡ Some second
-      → IsRedefinition first second place told → Redefined allowed (all_defined ns rs) (Broken place told)
+      → IsRedefinition first second place told → BreaksRedefinition allowed (all_defined ns rs) (Broken place told)
   defined_twice allowed i j bound first second place told is below repeats a b redefines =
       redefinition (record { i = i; j = j; first = first; second = second; repeats = repeats; first_is = a; second_is = b; told_is = redefines }) (may_be allowed i first a (subst (λ n. i < n) is below))
 
@@ -147,6 +147,6 @@ module _ (ns : List Naming) (rs : List (Recipe UnresolvedDependency)) where
   is_below false i j first at may l h = omega (arith, l, h)
 
   -- no two of them have one that may not
-  pub defined_kept : (allowed : Bool) (bound : ℕ) → bound ≡ bound_of allowed → NoneRepeats (texts_of_defined (all_defined ns rs)) (length (texts_of_defined (all_defined ns rs))) bound → Keeps (Redefined allowed (all_defined ns rs))
+  pub defined_kept : (allowed : Bool) (bound : ℕ) → bound ≡ bound_of allowed → NoneRepeats (texts_of_defined (all_defined ns rs)) (length (texts_of_defined (all_defined ns rs))) bound → Keeps (BreaksRedefinition allowed (all_defined ns rs))
   defined_kept allowed bound is none _ (redefinition r may) =
       none r.i r.j r.repeats r.repeats.within (subst (λ n. r.i < n) (sym is) (is_below allowed r.i r.j r.first r.first_is may r.repeats.apart r.repeats.within))

@@ -12,7 +12,7 @@ use Rattle.just_names.specs.Token.{Place}
 use Rattle.just_names.specs.declared.list_feature.ListFeature.{ListFeature}
 use Rattle.just_ast_expressions.specs.declared.list_use.ListUse.{ListUse}
 use Rattle.just_ast_definitions.specs.declared.setting.Set.{Set}
-use Rattle.just_module_contents.specs.Rules.{Lists, StandsFor, list_feature}
+use Rattle.just_module_contents.specs.Rules.{BreaksLists, StandsFor, list_feature}
 use Rattle.just_module_contents.specs.Settings.{allows_variables, is_allowing}
 
 module _ (sets : List Set) (i : ℕ) (s : Set) (at : slice_get sets i ≡ Some s) (so : allows_variables sets ≡ allows_variables (drop i sets)) where
@@ -35,15 +35,15 @@ stands_more names uses n u at stands before k used h is = elim (cases_lt k n) [
 ]
 
 -- a function stands for each
-pub uses_kept : (names : List Text) (uses : List ListUse) → ((k : ℕ) (used : ListUse) → slice_get uses k ≡ Some used → StandsFor names used) → Keeps (Lists false names uses)
+pub uses_kept : (names : List Text) (uses : List ListUse) → ((k : ℕ) (used : ListUse) → slice_get uses k ≡ Some used → StandsFor names used) → Keeps (BreaksLists false names uses)
 uses_kept names uses each _ (list_feature {used} i off at none) = none (each i used at)
 
 -- none stands for one
 pub needs_told : (names : List Text) (uses : List ListUse) (i : ℕ) (used : ListUse) (place : Place) (feature : ListFeature) → slice_get uses i ≡ Some used → (StandsFor names used → ⊥) → place ≡ used.token → feature ≡ used.feature
-    → Lists false names uses (Broken place (kind.ListFeature feature))
+    → BreaksLists false names uses (Broken place (kind.ListFeature feature))
 needs_told names uses i used place feature at none told is =
-    subst (λ p. Lists false names uses (Broken p (kind.ListFeature feature))) (sym told) (subst (λ f. Lists false names uses (Broken used.token (kind.ListFeature f))) (sym is) (list_feature i refl at none))
+    subst (λ p. BreaksLists false names uses (Broken p (kind.ListFeature feature))) (sym told) (subst (λ f. BreaksLists false names uses (Broken used.token (kind.ListFeature f))) (sym is) (list_feature i refl at none))
 
 -- where lists are on, nothing is refused
-pub lists_on : (names : List Text) (uses : List ListUse) (on : Bool) → on ≡ true → Keeps (Lists on names uses)
+pub lists_on : (names : List Text) (uses : List ListUse) (on : Bool) → on ≡ true → Keeps (BreaksLists on names uses)
 lists_on names uses on e _ (list_feature i off at none) = cc

@@ -14,7 +14,7 @@ use Rattle.just_module_contents.specs.Resolved.{number_at}
 use Rattle.just_names.specs.Index.{name_at, Repeats, AreDifferent}
 use Rattle.just_errors.specs.Causes.{Cause, Broken}
 use Rattle.just_names.specs.Token.{Place}
-use Rattle.just_module_contents.specs.Rules.{Parameters, duplicate_parameter, required_after_default}
+use Rattle.just_module_contents.specs.Rules.{BreaksParameters, duplicate_parameter, required_after_default}
 
 pub recipe_read : (rs : List (Recipe UnresolvedDependency)) (i : ℕ) (r : Recipe UnresolvedDependency) → slice_get rs i ≡ Some r → r ≡ recipe_at rs i
 recipe_read [] i r e = cc
@@ -39,23 +39,23 @@ names_more rs names more i x o so h at is e =
 
 -- a recipe with two parameters of one name
 pub has_duplicate : (rs : List (Recipe UnresolvedDependency)) (i p q : ℕ) (o : Recipe UnresolvedDependency) (ps : List (List ℕ)) (second : Name) (place : Place) (recipe parameter : List ℕ) → i < length rs → o ≡ recipe_at rs i → recipe ≡ name_of o → ps ≡ parameter_names o → Repeats ps p q
-    → slice_get (named_parameters o) q ≡ Some second → place ≡ second.token → parameter ≡ text_of_name second → Parameters rs (Broken place (kind.DuplicateParameter recipe parameter))
+    → slice_get (named_parameters o) q ≡ Some second → place ≡ second.token → parameter ≡ text_of_name second → BreaksParameters rs (Broken place (kind.DuplicateParameter recipe parameter))
 has_duplicate rs i p q o ps second place recipe parameter h at name list repeats b told is =
     let all : ps ≡ parameter_names (recipe_at rs i) = list ∙ ap parameter_names at in
-    subst (λ x. Parameters rs (Broken x (kind.DuplicateParameter recipe parameter))) (sym told)
-    (subst (λ t. Parameters rs (Broken second.token (kind.DuplicateParameter recipe t))) (sym is)
+    subst (λ x. BreaksParameters rs (Broken x (kind.DuplicateParameter recipe parameter))) (sym told)
+    (subst (λ t. BreaksParameters rs (Broken second.token (kind.DuplicateParameter recipe t))) (sym is)
     (duplicate_parameter i p q h (sym (name ∙ ap name_of at)) (subst (λ ns. Repeats ns p q) all repeats) (subst (λ (r : Recipe UnresolvedDependency). slice_get (named_parameters r) q ≡ Some second) at b)))
 
 -- a recipe in which a parameter that needs a word follows one with a default
 pub has_needed : (rs : List (Recipe UnresolvedDependency)) (i q : ℕ) (o : Recipe UnresolvedDependency) (second : Name) (place : Place) (parameter : List ℕ) → i < length rs → o ≡ recipe_at rs i → FollowsDefault o.parameters q
-    → slice_get (named_parameters o) q ≡ Some second → place ≡ second.token → parameter ≡ text_of_name second → Parameters rs (Broken place (kind.RequiredParameterFollowsDefaultParameter parameter))
+    → slice_get (named_parameters o) q ≡ Some second → place ≡ second.token → parameter ≡ text_of_name second → BreaksParameters rs (Broken place (kind.RequiredParameterFollowsDefaultParameter parameter))
 has_needed rs i q o second place parameter h at follows b told is =
-    subst (λ x. Parameters rs (Broken x (kind.RequiredParameterFollowsDefaultParameter parameter))) (sym told)
-    (subst (λ t. Parameters rs (Broken second.token (kind.RequiredParameterFollowsDefaultParameter t))) (sym is)
+    subst (λ x. BreaksParameters rs (Broken x (kind.RequiredParameterFollowsDefaultParameter parameter))) (sym told)
+    (subst (λ t. BreaksParameters rs (Broken second.token (kind.RequiredParameterFollowsDefaultParameter t))) (sym is)
     (required_after_default i q h (subst (λ (r : Recipe UnresolvedDependency). FollowsDefault r.parameters q) at follows) (subst (λ (r : Recipe UnresolvedDependency). slice_get (named_parameters r) q ≡ Some second) at b)))
 
 -- no rule on parameters is broken
-pub parameters_kept : (rs : List (Recipe UnresolvedDependency)) → ((k : ℕ) → k < length rs → AreDifferent (parameter_names (recipe_at rs k))) → ((k : ℕ) → k < length rs → NoneFollows (recipe_at rs k).parameters) → {c : Cause} → Parameters rs c → ⊥
+pub parameters_kept : (rs : List (Recipe UnresolvedDependency)) → ((k : ℕ) → k < length rs → AreDifferent (parameter_names (recipe_at rs k))) → ((k : ℕ) → k < length rs → NoneFollows (recipe_at rs k).parameters) → {c : Cause} → BreaksParameters rs c → ⊥
 parameters_kept rs ps ds (duplicate_parameter i p q h e r x) = ps i h p q r.apart r.within r.same
 parameters_kept rs ps ds (required_after_default i q h f x) = ds i h q f
 

@@ -14,7 +14,7 @@ use Rattle.just_errors.specs.declared.compile_error.CompileErrorKind.TheVariants
 use Rattle.just_errors.specs.declared.compile_error.Definition.TheVariants as definition
 use Rattle.just_module_contents.specs.Contents.{Signature, function_names, signature, signatures}
 use Rattle.just_names.specs.Index.{texts_of_names, AreDifferent, Repeats}
-use Rattle.just_module_contents.specs.Rules.{Functions, RepeatsParameter, duplicate_function_parameter, function_redefinition, of_function}
+use Rattle.just_module_contents.specs.Rules.{BreaksFunctions, RepeatsParameter, duplicate_function_parameter, function_redefinition, of_function}
 
 -- the names of functions one after another
 names_append : (fs gs : List FunctionDefinition) → function_names (signatures (fs ++ gs)) ≡ function_names (signatures fs) ++ function_names (signatures gs)
@@ -30,9 +30,9 @@ function_more fs names more i f n so at is e =
 
 -- two functions of one name
 pub functions_redefined : (ss : List Signature) (i j : ℕ) (first second : Name) (place : Place) (told : CompileErrorKind) → Repeats (texts_of_names (function_names ss)) i j → slice_get (function_names ss) i ≡ Some first → slice_get (function_names ss) j ≡ Some second
-    → place ≡ second.token → told ≡ kind.Redefinition definition.Function definition.Function (text_of_name second) first.token.line → Functions ss (Broken place told)
+    → place ≡ second.token → told ≡ kind.Redefinition definition.Function definition.Function (text_of_name second) first.token.line → BreaksFunctions ss (Broken place told)
 functions_redefined ss i j first second place told repeats a b at is =
-    subst (λ p. Functions ss (Broken p told)) (sym at) (subst (λ k. Functions ss (Broken second.token k)) (sym is) (function_redefinition i j repeats a b))
+    subst (λ p. BreaksFunctions ss (Broken p told)) (sym at) (subst (λ k. BreaksFunctions ss (Broken second.token k)) (sym is) (function_redefinition i j repeats a b))
 
 -- a function with two parameters of one name
 pub parameter_repeated : (s : Signature) (p q : ℕ) (second : Name) (place : Place) (function parameter : List ℕ) → Repeats (texts_of_names s.parameters) p q → slice_get s.parameters q ≡ Some second
@@ -47,7 +47,7 @@ parameters_differ : (s : Signature) → AreDifferent (texts_of_names s.parameter
 parameters_differ s different _ (duplicate_function_parameter p q r at) = different p q r.apart r.within r.same
 
 -- no rule on functions is broken
-pub functions_kept : (fs : List FunctionDefinition) → AreDifferent (texts_of_names (function_names (signatures fs))) → ((k : ℕ) (f : FunctionDefinition) → slice_get fs k ≡ Some f → AreDifferent (texts_of_names (signature f).parameters)) → Keeps (Functions (signatures fs))
+pub functions_kept : (fs : List FunctionDefinition) → AreDifferent (texts_of_names (function_names (signatures fs))) → ((k : ℕ) (f : FunctionDefinition) → slice_get fs k ≡ Some f → AreDifferent (texts_of_names (signature f).parameters)) → Keeps (BreaksFunctions (signatures fs))
 functions_kept fs different each _ (function_redefinition i j r a b) = different i j r.apart r.within r.same
 functions_kept fs different each c (of_function {s} i at b) =
     let x = get_map signature fs i s at in

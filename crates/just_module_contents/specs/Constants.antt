@@ -102,15 +102,15 @@ pub record IsEvaluated (layers : Layers) (m : Contents) (it : Evaluated) : Type 
   pub settings : settings_among layers m it.constants ≡ Some it.settings
 
 -- A name in a setting is at fault, a constant that is needed has no value, or the settings have none.
-pub data Constants (layers : Layers) (m : Contents) : Cause → Type 0 where
-  in_setting : {e : Expression} {c : Cause} → Contains (settings_expressions m) e → Misnames (known_of layers.syntax m) none_hidden e c → Constants layers m c
+pub data BreaksConstants (layers : Layers) (m : Contents) : Cause → Type 0 where
+  in_setting : {e : Expression} {c : Cause} → Contains (settings_expressions m) e → Misnames (known_of layers.syntax m) none_hidden e c → BreaksConstants layers m c
   constants_fault : {wanted : Wanted} {place : Place} {fault : Fault} → AsksConstants layers m wanted → layers.evaluator.constants wanted ≡ None
-      → Constants layers m (Broken place (kind.Evaluate fault))
+      → BreaksConstants layers m (Broken place (kind.Evaluate fault))
   settings_fault : {values : Values} {place : Place} {fault : Fault} → AreConstants layers m values → settings_among layers m values ≡ None
-      → Constants layers m (Broken place (kind.Evaluate fault))
+      → BreaksConstants layers m (Broken place (kind.Evaluate fault))
 
 -- A name in the doc of a module that is declared is at fault, or it has no value.
-pub data Docs (answers : SyntaxAnswers) (evaluator : Evaluator) (m : Contents) (values : Values) : Cause → Type 0 where
-  in_doc : {e : Expression} {c : Cause} → Contains m.docs e → Misnames (known_of answers m) none_hidden e c → Docs answers evaluator m values c
+pub data BreaksDocs (answers : SyntaxAnswers) (evaluator : Evaluator) (m : Contents) (values : Values) : Cause → Type 0 where
+  in_doc : {e : Expression} {c : Cause} → Contains m.docs e → Misnames (known_of answers m) none_hidden e c → BreaksDocs answers evaluator m values c
   doc_fault : {e : Expression} {place : Place} {fault : Fault} → Contains m.docs e → value_among evaluator m values e ≡ None
-      → Docs answers evaluator m values (Broken place (kind.Evaluate fault))
+      → BreaksDocs answers evaluator m values (Broken place (kind.Evaluate fault))

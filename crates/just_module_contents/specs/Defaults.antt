@@ -38,9 +38,9 @@ pub record IsLater (a b : Recipe UnresolvedDependency) : Type 0 where
   pub name : line_of a ≡ line_of b → slice_cmp nat_cmp (name_of b) (name_of a) ≢ Less
 
 -- Two recipes have the attribute. It is told at the later one.
-pub data Defaults (recipes : List (Recipe UnresolvedDependency)) : Cause → Type 0 where
+pub data BreaksDefaults (recipes : List (Recipe UnresolvedDependency)) : Cause → Type 0 where
   duplicate_default : (i j : ℕ) → i < length recipes → j < length recipes → i ≢ j → is_marked (recipe_at recipes i) ≡ true → is_marked (recipe_at recipes j) ≡ true
-      → IsLater (recipe_at recipes i) (recipe_at recipes j) → Defaults recipes (Broken (token_of (recipe_at recipes j)) (kind.DuplicateDefault (name_of (recipe_at recipes j))))
+      → IsLater (recipe_at recipes i) (recipe_at recipes j) → BreaksDefaults recipes (Broken (token_of (recipe_at recipes j)) (kind.DuplicateDefault (name_of (recipe_at recipes j))))
 
 -- the first n recipes have it at a place and nowhere else, if there is one
 abbrev pub IsMarkedPlace : List (Recipe UnresolvedDependency) → ℕ → Option ℕ → Type 0

@@ -3,15 +3,15 @@ use Rattle.std.specs.Prelude.{◌<◌, ℕ}
 use Rattle.just_errors.specs.Causes.{Cause, Keeps}
 use Rattle.just_parts.specs.Layers.{Layers}
 use Rattle.just_parts.specs.Misnaming.{Expressions}
-use Rattle.just_module_contents.specs.Constants.{Constants, Docs, Evaluated, IsEvaluated}
+use Rattle.just_module_contents.specs.Constants.{BreaksConstants, BreaksDocs, Evaluated, IsEvaluated}
 use Rattle.just_module_contents.specs.Contents.{Contents}
 use Rattle.just_module_contents.specs.Known.{known_of}
-use Rattle.just_module_contents.specs.Rules.{Bodies, Headers, Names, Under}
+use Rattle.just_module_contents.specs.Rules.{BreaksBodies, BreaksHeaders, BreaksDefinitions, WhereEvaluated}
 
 -- What is broken in the bodies of a module, or in the docs of the modules that it declares, as it is evaluated.
-pub data BodiesAndDocs (layers : Layers) (m : Contents) (it : Evaluated) : Cause → Type 0 where
-  in_docs : {c : Cause} → Docs layers.syntax layers.evaluator m it.constants c → BodiesAndDocs layers m it c
-  in_bodies : {c : Cause} → Bodies layers.syntax it.settings m c → BodiesAndDocs layers m it c
+pub data BreaksBodiesAndDocs (layers : Layers) (m : Contents) (it : Evaluated) : Cause → Type 0 where
+  in_docs : {c : Cause} → BreaksDocs layers.syntax layers.evaluator m it.constants c → BreaksBodiesAndDocs layers m it c
+  in_bodies : {c : Cause} → BreaksBodies layers.syntax it.settings m c → BreaksBodiesAndDocs layers m it c
 
 -- The groups of rules, in the order in which they are read.
 pub data Group : Type 0 where
@@ -40,14 +40,14 @@ Links = Layers → Evaluated → Group → Cause → Type 0
 
 -- what is broken of a group
 abbrev pub Breaks : Layers → Links → Group → Contents → Cause → Type 0
-Breaks layers links OfHeaders m = Headers layers.syntax.conflicts m
-Breaks layers links OfNames m = Names m
+Breaks layers links OfHeaders m = BreaksHeaders layers.syntax.conflicts m
+Breaks layers links OfNames m = BreaksDefinitions m
 Breaks layers links OfExpressions m = Expressions (known_of layers.syntax m)
-Breaks layers links OfConstants m = Constants layers m
-Breaks layers links OfBodies m = Under (IsEvaluated layers m) (BodiesAndDocs layers m)
-Breaks layers links OfDependencies m = Under (IsEvaluated layers m) (λ (it : Evaluated). links layers it OfDependencies)
-Breaks layers links OfRecipes m = Under (IsEvaluated layers m) (λ (it : Evaluated). links layers it OfRecipes)
-Breaks layers links OfAliases m = Under (IsEvaluated layers m) (λ (it : Evaluated). links layers it OfAliases)
+Breaks layers links OfConstants m = BreaksConstants layers m
+Breaks layers links OfBodies m = WhereEvaluated (IsEvaluated layers m) (BreaksBodiesAndDocs layers m)
+Breaks layers links OfDependencies m = WhereEvaluated (IsEvaluated layers m) (λ (it : Evaluated). links layers it OfDependencies)
+Breaks layers links OfRecipes m = WhereEvaluated (IsEvaluated layers m) (λ (it : Evaluated). links layers it OfRecipes)
+Breaks layers links OfAliases m = WhereEvaluated (IsEvaluated layers m) (λ (it : Evaluated). links layers it OfAliases)
 
 -- all groups are kept
 abbrev pub KeepsContents : Layers → Links → Contents → Type 0

@@ -16,7 +16,7 @@ abbrev pub written_scopes : SyntaxAnswers → Settings → Recipe UnresolvedDepe
 written_scopes = scopes_of (λ (d : UnresolvedDependency). d.arguments)
 
 -- A name is at fault in one of the expressions that a recipe reads, under the parameters that hide names there.
-pub record RecipeNames (answers : SyntaxAnswers) (m : Known) (settings : Settings) (r : Recipe UnresolvedDependency) (c : Cause) : Type 0 where
+pub record BreaksRecipeNames (answers : SyntaxAnswers) (m : Known) (settings : Settings) (r : Recipe UnresolvedDependency) (c : Cause) : Type 0 where
   pub from : Scoped
   pub there : Contains (written_scopes answers settings r) from
   pub wrong : Misnames m from.hidden from.expression c

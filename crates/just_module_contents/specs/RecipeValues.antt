@@ -19,7 +19,7 @@ use Rattle.just_parts.specs.Syntax.{SyntaxAnswers}
 use Rattle.just_recipe.specs.declared.dependency.UnresolvedDependency.{UnresolvedDependency}
 use Rattle.just_recipe.specs.declared.recipe.Recipe.{Recipe}
 use Rattle.just_module_contents.specs.Constants.{recipe_expressions, text_of_value}
-use Rattle.just_module_contents.specs.RecipeNames.{RecipeNames}
+use Rattle.just_module_contents.specs.RecipeNames.{BreaksRecipeNames}
 
 -- the patterns that attributes say
 abbrev pub patterns_in : Attribute Expression → List (ArgumentProperty Expression)
@@ -53,5 +53,5 @@ module _ (value : Expression → Option (List Text)) where
 
   -- A rule of one recipe is broken: that of the names in what it reads, or that of its docs, helps and patterns.
   pub data BreaksRecipe (answers : SyntaxAnswers) (m : Known) (settings : Settings) (r : Recipe UnresolvedDependency) : Cause → Type 0 where
-    of_names : {c : Cause} → RecipeNames answers m settings r c → BreaksRecipe answers m settings r c
+    of_names : {c : Cause} → BreaksRecipeNames answers m settings r c → BreaksRecipe answers m settings r c
     of_values : {c : Cause} → Unvalued r c → BreaksRecipe answers m settings r c

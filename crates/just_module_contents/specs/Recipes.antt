@@ -117,7 +117,7 @@ pub record Depends (recipes : List (Recipe UnresolvedDependency)) (a b : ℕ) : 
   pub names : Contains (dependency_paths (recipe_at recipes a)) (name_of (recipe_at recipes b) ∷ [])
 
 -- the same by names
-pub record DependsOn (recipes : List (Recipe UnresolvedDependency)) (dependent name : List ℕ) : Type 0 where
+pub record DependsOnRecipe (recipes : List (Recipe UnresolvedDependency)) (dependent name : List ℕ) : Type 0 where
   pub from : ℕ
   pub to : ℕ
   pub step : Depends recipes from to

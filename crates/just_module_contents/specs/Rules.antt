@@ -21,19 +21,19 @@ use Rattle.just_recipe.specs.declared.dependency.UnresolvedDependency.{Unresolve
 use Rattle.just_recipe.specs.declared.recipe.Recipe.{Recipe}
 use Rattle.just_module_contents.specs.Contents.{Contents, Defined, Signature, defined_in, defined_naming, function_names, function_texts, signatures, texts_of_defined, variable_names}
 use Rattle.just_names.specs.Index.{texts_of_names, Repeats, name_at}
-use Rattle.just_module_contents.specs.Shells.{Shells}
+use Rattle.just_module_contents.specs.Shells.{BreaksShells}
 use Rattle.just_module_contents.specs.Settings.{Conflicts, allows_variables, are_incompatible, line_at, place_at, setting_at, setting_names}
 use Rattle.just_module_contents.specs.declared.definitions.Naming.{Naming}
-use Rattle.just_module_contents.specs.Recipes.{name_of, named_parameters, parameter_names, FollowsDefault, named_paths, recipe_at, DependsOn}
+use Rattle.just_module_contents.specs.Recipes.{name_of, named_parameters, parameter_names, FollowsDefault, named_paths, recipe_at, DependsOnRecipe}
 
 -- A recipe has a parameter's name twice: those two that follow each other under that name; or a parameter whose group may not be empty follows one with a default, both given by their places. It is told at the later parameter.
-pub data Parameters (recipes : List (Recipe UnresolvedDependency)) : Cause → Type 0 where
+pub data BreaksParameters (recipes : List (Recipe UnresolvedDependency)) : Cause → Type 0 where
   duplicate_parameter : {second : Name} {recipe : List ℕ} (i p q : ℕ) → i < length recipes → name_of (recipe_at recipes i) ≡ recipe
       → Repeats (parameter_names (recipe_at recipes i)) p q → slice_get (named_parameters (recipe_at recipes i)) q ≡ Some second
-      → Parameters recipes (Broken second.token (kind.DuplicateParameter recipe (text_of_name second)))
+      → BreaksParameters recipes (Broken second.token (kind.DuplicateParameter recipe (text_of_name second)))
   required_after_default : {second : Name} (i q : ℕ) → i < length recipes → FollowsDefault (recipe_at recipes i).parameters q
       → slice_get (named_parameters (recipe_at recipes i)) q ≡ Some second
-      → Parameters recipes (Broken second.token (kind.RequiredParameterFollowsDefaultParameter (text_of_name second)))
+      → BreaksParameters recipes (Broken second.token (kind.RequiredParameterFollowsDefaultParameter (text_of_name second)))
 
 -- How two definitions of one name are told: at the one on the greater line, and the line of the other with it; of one line the second, as they were met, comes after the first.
 pub record IsRedefinition (first second : Defined) (place : Place) (told : CompileErrorKind) : Type 0 where
@@ -58,25 +58,25 @@ pub data SetTwice (sets : List Set) : Cause → Type 0 where
   duplicate_set : (i j : ℕ) → Repeats (setting_names sets) i j → SetTwice sets (Broken (place_at sets j) (kind.DuplicateSet (setting_at sets j) (line_at sets i)))
 
 -- What is broken by settings: one is set twice, or two are set of which neither may be set beside the other, which is told at the second.
-pub data Sets (conflicts : Conflicts) (sets : List Set) : Cause → Type 0 where
-  set_twice : {c : Cause} → SetTwice sets c → Sets conflicts sets c
+pub data BreaksSettings (conflicts : Conflicts) (sets : List Set) : Cause → Type 0 where
+  set_twice : {c : Cause} → SetTwice sets c → BreaksSettings conflicts sets c
   incompatible_settings : (i j : ℕ) → i < j → j < length sets → are_incompatible conflicts sets i j ≡ true
-      → Sets conflicts sets (Broken (place_at sets j) (kind.IncompatibleSettings (setting_at sets i) (line_at sets i) (setting_at sets j)))
+      → BreaksSettings conflicts sets (Broken (place_at sets j) (kind.IncompatibleSettings (setting_at sets i) (line_at sets i) (setting_at sets j)))
 
 -- A variable is unexported twice. It is told at the second place.
-pub data Unexports (names : List Name) : Cause → Type 0 where
-  duplicate_unexport : {second : Name} (i j : ℕ) → Repeats (texts_of_names names) i j → slice_get names j ≡ Some second → Unexports names (Broken second.token (kind.DuplicateUnexport (text_of_name second)))
+pub data BreaksUnexports (names : List Name) : Cause → Type 0 where
+  duplicate_unexport : {second : Name} (i j : ℕ) → Repeats (texts_of_names names) i j → slice_get names j ≡ Some second → BreaksUnexports names (Broken second.token (kind.DuplicateUnexport (text_of_name second)))
 
 -- Two of the modules and aliases have one name: those two that follow each other under that name.
-pub data Named (named : List Naming) : Cause → Type 0 where
-  named_redefinition : {place : Place} {told : CompileErrorKind} → Redefines (map defined_naming named) place told → Named named (Broken place told)
+pub data BreaksNamings (named : List Naming) : Cause → Type 0 where
+  named_redefinition : {place : Place} {told : CompileErrorKind} → Redefines (map defined_naming named) place told → BreaksNamings named (Broken place told)
 
 -- What is broken in the headers of a module: those of its recipes, its settings, the names that it unexports, or those of its modules and aliases.
-pub data Headers (conflicts : Conflicts) (m : Contents) : Cause → Type 0 where
-  of_parameters : {c : Cause} → Parameters m.recipes c → Headers conflicts m c
-  of_sets : {c : Cause} → Sets conflicts m.sets c → Headers conflicts m c
-  of_unexports : {c : Cause} → Unexports m.unexports c → Headers conflicts m c
-  of_named : {c : Cause} → Named m.named c → Headers conflicts m c
+pub data BreaksHeaders (conflicts : Conflicts) (m : Contents) : Cause → Type 0 where
+  of_parameters : {c : Cause} → BreaksParameters m.recipes c → BreaksHeaders conflicts m c
+  of_sets : {c : Cause} → BreaksSettings conflicts m.sets c → BreaksHeaders conflicts m c
+  of_unexports : {c : Cause} → BreaksUnexports m.unexports c → BreaksHeaders conflicts m c
+  of_named : {c : Cause} → BreaksNamings m.named c → BreaksHeaders conflicts m c
 
 -- A function has the name of a parameter twice: those two that follow each other under that name. It is told at the second.
 pub data RepeatsParameter (s : Signature) : Cause → Type 0 where
@@ -84,10 +84,10 @@ pub data RepeatsParameter (s : Signature) : Cause → Type 0 where
       → RepeatsParameter s (Broken second.token (kind.DuplicateFunctionParameter (text_of_name s.name) (text_of_name second)))
 
 -- What is broken of functions: two have one name, those two that follow each other under it, and it is told at the second; or one has the name of a parameter twice.
-pub data Functions (functions : List Signature) : Cause → Type 0 where
+pub data BreaksFunctions (functions : List Signature) : Cause → Type 0 where
   function_redefinition : {first second : Name} (i j : ℕ) → Repeats (texts_of_names (function_names functions)) i j → slice_get (function_names functions) i ≡ Some first → slice_get (function_names functions) j ≡ Some second
-      → Functions functions (Broken second.token (kind.Redefinition definition.Function definition.Function (text_of_name second) first.token.line))
-  of_function : {s : Signature} {c : Cause} (i : ℕ) → slice_get functions i ≡ Some s → RepeatsParameter s c → Functions functions c
+      → BreaksFunctions functions (Broken second.token (kind.Redefinition definition.Function definition.Function (text_of_name second) first.token.line))
+  of_function : {s : Signature} {c : Cause} (i : ℕ) → slice_get functions i ≡ Some s → RepeatsParameter s c → BreaksFunctions functions c
 
 -- A variable is assigned twice: at those two places that follow each other under its name. It is told at the second.
 pub data AssignedTwice (names : List Name) : Cause → Type 0 where
@@ -99,22 +99,22 @@ pub data Unexported (names unexports : List Name) : Cause → Type 0 where
       → Unexported names unexports (Broken name.token (kind.ExportUnexported (text_of_name name)))
 
 -- What is broken of variables: one is assigned twice, though no setting allows it, or one is unexported.
-pub data Variables (allowed : Bool) (names unexports : List Name) : Cause → Type 0 where
-  assigned_twice : {c : Cause} → allowed ≡ false → AssignedTwice names c → Variables allowed names unexports c
-  unexported : {c : Cause} → Unexported names unexports c → Variables allowed names unexports c
+pub data BreaksVariables (allowed : Bool) (names unexports : List Name) : Cause → Type 0 where
+  assigned_twice : {c : Cause} → allowed ≡ false → AssignedTwice names c → BreaksVariables allowed names unexports c
+  unexported : {c : Cause} → Unexported names unexports c → BreaksVariables allowed names unexports c
 
 -- the same, of a module
-abbrev pub VariablesOf : Contents → Cause → Type 0
-VariablesOf m = Variables (allows_variables m.sets) (variable_names m.variables) m.unexports
+abbrev pub BreaksVariablesOf : Contents → Cause → Type 0
+BreaksVariablesOf m = BreaksVariables (allows_variables m.sets) (variable_names m.variables) m.unexports
 
 -- What is broken in the names of a module: those of its variables, or of its functions.
-pub data Names (m : Contents) : Cause → Type 0 where
-  of_variables : {c : Cause} → VariablesOf m c → Names m c
-  of_functions : {c : Cause} → Functions (signatures m.functions) c → Names m c
+pub data BreaksDefinitions (m : Contents) : Cause → Type 0 where
+  of_variables : {c : Cause} → BreaksVariablesOf m c → BreaksDefinitions m c
+  of_functions : {c : Cause} → BreaksFunctions (signatures m.functions) c → BreaksDefinitions m c
 
 -- Two of these definitions, of which recipes come last, have one name, and they are not two recipes that may have it.
-pub data Redefined (allowed : Bool) (ds : List Defined) : Cause → Type 0 where
-  redefinition : {place : Place} {told : CompileErrorKind} (r : Redefines ds place told) → (allowed ≡ true → r.first.sort ≢ definition.Recipe) → Redefined allowed ds (Broken place told)
+pub data BreaksRedefinition (allowed : Bool) (ds : List Defined) : Cause → Type 0 where
+  redefinition : {place : Place} {told : CompileErrorKind} (r : Redefines ds place told) → (allowed ≡ true → r.first.sort ≢ definition.Recipe) → BreaksRedefinition allowed ds (Broken place told)
 
 -- a function of one of these names stands for what needs lists
 pub record StandsFor (names : List Text) (used : ListUse) : Type 0 where
@@ -124,24 +124,24 @@ pub record StandsFor (names : List Text) (used : ListUse) : Type 0 where
   pub named : name_at names at ≡ lexeme used.token
 
 -- Something needs lists, which are off, and no function of the module stands for it.
-pub data Lists (on : Bool) (names : List Text) (uses : List ListUse) : Cause → Type 0 where
-  list_feature : {used : ListUse} (i : ℕ) → on ≡ false → slice_get uses i ≡ Some used → (StandsFor names used → ⊥) → Lists on names uses (Broken used.token (kind.ListFeature used.feature))
+pub data BreaksLists (on : Bool) (names : List Text) (uses : List ListUse) : Cause → Type 0 where
+  list_feature : {used : ListUse} (i : ℕ) → on ≡ false → slice_get uses i ≡ Some used → (StandsFor names used → ⊥) → BreaksLists on names uses (Broken used.token (kind.ListFeature used.feature))
 
 -- What is broken in the bodies of a module under its settings: something needs lists, two of its modules, aliases and recipes have one name, or something in a recipe that a shell runs.
-pub data Bodies (answers : SyntaxAnswers) (settings : Settings) (m : Contents) : Cause → Type 0 where
-  of_lists : {c : Cause} → Lists settings.lists (function_texts m) m.lists c → Bodies answers settings m c
-  of_defined : {c : Cause} → Redefined settings.allow_duplicate_recipes (defined_in m) c → Bodies answers settings m c
-  of_shells : {c : Cause} → Shells answers settings m.recipes c → Bodies answers settings m c
+pub data BreaksBodies (answers : SyntaxAnswers) (settings : Settings) (m : Contents) : Cause → Type 0 where
+  of_lists : {c : Cause} → BreaksLists settings.lists (function_texts m) m.lists c → BreaksBodies answers settings m c
+  of_defined : {c : Cause} → BreaksRedefinition settings.allow_duplicate_recipes (defined_in m) c → BreaksBodies answers settings m c
+  of_shells : {c : Cause} → BreaksShells answers settings m.recipes c → BreaksBodies answers settings m c
 
 -- what is broken under something that there is
-pub data Under {A : Type 0} (Is : A → Type 0) (broken : A → Cause → Type 0) : Cause → Type 0 where
-  under : {a : A} {c : Cause} → Is a → broken a c → Under Is broken c
+pub data WhereEvaluated {A : Type 0} (Is : A → Type 0) (broken : A → Cause → Type 0) : Cause → Type 0 where
+  under : {a : A} {c : Cause} → Is a → broken a c → WhereEvaluated Is broken c
 
 -- A circle of names: it begins and ends with one name, each recipe depends on the next, and `recipe` is the last that does.
 pub record IsCircleOf (recipes : List (Recipe UnresolvedDependency)) (recipe : List ℕ) (circle : List (List ℕ)) : Type 0 where
   pub steps : 1 < length circle
   pub closed : get_or circle 0 [] ≡ get_or circle (length circle - 1) []
-  pub walk : (k : ℕ) → k + 1 < length circle → DependsOn recipes (get_or circle k []) (get_or circle (k + 1) [])
+  pub walk : (k : ℕ) → k + 1 < length circle → DependsOnRecipe recipes (get_or circle k []) (get_or circle (k + 1) [])
   pub closing : get_or circle (length circle - 2) [] ≡ recipe
 
 -- A dependency of a recipe of one name on one of another.
@@ -184,5 +184,5 @@ module _ (Leads : Namepath → Type 0) (Stands : Text → Type 0) (Takes : Namep
         → Dependencies lists recipes (Broken d.recipe.last.token (kind.DependencyArgumentCountMismatch d.recipe found least most))
 
 -- The target of one of these aliases leads to nothing. It is told at the alias's name.
-pub data Aliases (Leads : Namepath → Type 0) (aliases : List (Alias Namepath)) : Cause → Type 0 where
-  unknown_target : {alias : Alias Namepath} → Contains aliases alias → (Leads alias.target → ⊥) → Aliases Leads aliases (Broken alias.name.token (kind.UnknownAliasTarget (text_of_name alias.name) alias.target))
+pub data BreaksAliasTargets (Leads : Namepath → Type 0) (aliases : List (Alias Namepath)) : Cause → Type 0 where
+  unknown_target : {alias : Alias Namepath} → Contains aliases alias → (Leads alias.target → ⊥) → BreaksAliasTargets Leads aliases (Broken alias.name.token (kind.UnknownAliasTarget (text_of_name alias.name) alias.target))

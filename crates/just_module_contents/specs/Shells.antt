@@ -20,14 +20,14 @@ use Rattle.just_recipe.specs.declared.recipe.Recipe.{Recipe}
 use Rattle.just_module_contents.specs.Recipes.{name_of, recipe_at}
 
 -- What is broken at a line that begins a group: it has the sigils `?` and `-`, or it is indented further than its body. It is told at the text that it begins with.
-pub data FirstLine (answers : SyntaxAnswers) (settings : Settings) (line : Line) : Cause → Type 0 where
+pub data BreaksFirstLine (answers : SyntaxAnswers) (settings : Settings) (line : Line) : Cause → Type 0 where
   guard_and_infallible : {token : Place} → front line.fragments ≡ Some token → Contains (answers.sigils line settings) sigil.Guard → Contains (answers.sigils line settings) sigil.Infallible
-      → FirstLine answers settings line (Broken token kind.GuardAndInfallibleSigil)
-  extra_whitespace : {token : Place} → front line.fragments ≡ Some token → is_indented (lexeme token) ≡ true → FirstLine answers settings line (Broken token kind.ExtraLeadingWhitespace)
+      → BreaksFirstLine answers settings line (Broken token kind.GuardAndInfallibleSigil)
+  extra_whitespace : {token : Place} → front line.fragments ≡ Some token → is_indented (lexeme token) ≡ true → BreaksFirstLine answers settings line (Broken token kind.ExtraLeadingWhitespace)
 
 -- What is broken in the lines of a body: something at one that begins a group.
-pub data Lines (answers : SyntaxAnswers) (settings : Settings) (body : List Line) : Cause → Type 0 where
-  of_line : {line : Line} {c : Cause} (i : ℕ) → BeginsGroup answers settings body i → slice_get body i ≡ Some line → FirstLine answers settings line c → Lines answers settings body c
+pub data BreaksLines (answers : SyntaxAnswers) (settings : Settings) (body : List Line) : Cause → Type 0 where
+  of_line : {line : Line} {c : Cause} (i : ℕ) → BeginsGroup answers settings body i → slice_get body i ≡ Some line → BreaksFirstLine answers settings line c → BreaksLines answers settings body c
 
 -- only a script may have it
 abbrev pub is_of_scripts : {E : Type 0} → Attribute E → Bool
@@ -41,10 +41,10 @@ pub data ScriptAttribute (recipe : Recipe UnresolvedDependency) : Cause → Type
       → ScriptAttribute recipe (Broken recipe.name.token (kind.InvalidShellRecipeAttribute (name_of recipe) (text_of_name named.name)))
 
 -- What is broken in a recipe that is no script: something in its lines, or in its attributes.
-pub data ShellRecipe (answers : SyntaxAnswers) (settings : Settings) (recipe : Recipe UnresolvedDependency) : Cause → Type 0 where
-  of_lines : {c : Cause} → is_script recipe settings ≡ false → Lines answers settings recipe.body c → ShellRecipe answers settings recipe c
-  of_attributes : {c : Cause} → is_script recipe settings ≡ false → ScriptAttribute recipe c → ShellRecipe answers settings recipe c
+pub data BreaksShellRecipe (answers : SyntaxAnswers) (settings : Settings) (recipe : Recipe UnresolvedDependency) : Cause → Type 0 where
+  of_lines : {c : Cause} → is_script recipe settings ≡ false → BreaksLines answers settings recipe.body c → BreaksShellRecipe answers settings recipe c
+  of_attributes : {c : Cause} → is_script recipe settings ≡ false → ScriptAttribute recipe c → BreaksShellRecipe answers settings recipe c
 
 -- What is broken in the recipes of a module that are no scripts.
-pub data Shells (answers : SyntaxAnswers) (settings : Settings) (recipes : List (Recipe UnresolvedDependency)) : Cause → Type 0 where
-  of_recipe : {c : Cause} (i : ℕ) → i < length recipes → ShellRecipe answers settings (recipe_at recipes i) c → Shells answers settings recipes c
+pub data BreaksShells (answers : SyntaxAnswers) (settings : Settings) (recipes : List (Recipe UnresolvedDependency)) : Cause → Type 0 where
+  of_recipe : {c : Cause} (i : ℕ) → i < length recipes → BreaksShellRecipe answers settings (recipe_at recipes i) c → BreaksShells answers settings recipes c

@@ -35,22 +35,22 @@ use Rattle.just_names.specs.declared.name.Namepath.{Namepath}
 use Rattle.just_errors.specs.declared.compile_error.Definition.TheVariants as definition
 use Rattle.just_module_contents.specs.Contents.{Contents, Defined, Signature, all_defined, defined, defined_in, defined_naming, defined_recipe, function_names, signature, signatures, variable_names}
 use Rattle.just_names.specs.Index.{texts_of_names, Repeats}
-use Rattle.just_module_contents.specs.Constants.{AreConstants, AsksConstants, AsksFor, Constants, Docs, Evaluated, IsEvaluated, constant_expressions, constants_fault, doc_fault, functions_asked, in_doc, in_setting, recipe_expressions, settings_among, settings_fault, sets_lists}
-use Rattle.just_module_contents.specs.Groups.{BodiesAndDocs, Breaks, Group, Links, OfAliases, OfBodies, OfConstants, OfDependencies, OfExpressions, OfHeaders, OfNames, OfRecipes, in_bodies, in_docs}
+use Rattle.just_module_contents.specs.Constants.{AreConstants, AsksConstants, AsksFor, BreaksConstants, BreaksDocs, Evaluated, IsEvaluated, constant_expressions, constants_fault, doc_fault, functions_asked, in_doc, in_setting, recipe_expressions, settings_among, settings_fault, sets_lists}
+use Rattle.just_module_contents.specs.Groups.{BreaksBodiesAndDocs, Breaks, Group, Links, OfAliases, OfBodies, OfConstants, OfDependencies, OfExpressions, OfHeaders, OfNames, OfRecipes, in_bodies, in_docs}
 use Rattle.just_module_contents.specs.Known.{functions_under, known_of, variables_under}
 use Rattle.just_parts.specs.Known.{Known, known, none_hidden}
 use Rattle.just_parts.specs.Misnaming.{Expressions, Misnames}
-use Rattle.just_module_contents.specs.Defaults.{Defaults, IsLater, duplicate_default, is_default, is_marked}
+use Rattle.just_module_contents.specs.Defaults.{BreaksDefaults, IsLater, duplicate_default, is_default, is_marked}
 use Rattle.just_module_contents.specs.Kept.{claim_of_recipe, gives_way, kept_recipes, left_of}
 use Rattle.just_module_contents.specs.Settings.{allows_variables}
-use Rattle.just_module_contents.specs.Shells.{Lines, ScriptAttribute, ShellRecipe, Shells, invalid_attribute, of_attributes, of_lines, of_recipe}
+use Rattle.just_module_contents.specs.Shells.{BreaksLines, ScriptAttribute, BreaksShellRecipe, BreaksShells, invalid_attribute, of_attributes, of_lines, of_recipe}
 use Rattle.just_module_contents.specs.declared.definitions.Naming.{Naming}
 use Rattle.just_module_contents.specs.declared.kept.Claim.{Claim}
-use Rattle.just_module_contents.specs.RecipeNames.{RecipeNames, written_scopes}
+use Rattle.just_module_contents.specs.RecipeNames.{BreaksRecipeNames, written_scopes}
 use Rattle.just_module_contents.specs.RecipeValues.{BreaksRecipe, HasPattern, IsPastLimits, Unvalued, of_names, of_pattern, of_value, of_values, past_limits, patterns_in}
-use Rattle.just_module_contents.specs.Recipes.{name_of, line_of, token_of, named_parameters, parameter_names, is_defaulted, is_needed, FollowsDefault, named_paths, dependency_paths, least_of, most_of, names_of, no_recipe, recipe_at, Depends, DependsOn}
+use Rattle.just_module_contents.specs.Recipes.{name_of, line_of, token_of, named_parameters, parameter_names, is_defaulted, is_needed, FollowsDefault, named_paths, dependency_paths, least_of, most_of, names_of, no_recipe, recipe_at, Depends, DependsOnRecipe}
 use Rattle.just_module_contents.specs.Standing.{InOne, in_recipe}
-use Rattle.just_module_contents.specs.Rules.{Bodies, Dependencies, DependsBy, Functions, Headers, IsCircleOf, Lists, Named, Names, Parameters, Redefined, Sets, StandsWith, Under, Unexports, Variables, argument_count, circular, duplicate_parameter, of_defined, of_functions, of_lists, of_named, of_parameters, of_sets, of_shells, of_unexports, of_variables, required_after_default, starred, under, unknown_dependency}
+use Rattle.just_module_contents.specs.Rules.{BreaksBodies, Dependencies, DependsBy, BreaksFunctions, BreaksHeaders, IsCircleOf, BreaksLists, BreaksNamings, BreaksDefinitions, BreaksParameters, BreaksRedefinition, BreaksSettings, StandsWith, WhereEvaluated, BreaksUnexports, BreaksVariables, argument_count, circular, duplicate_parameter, of_defined, of_functions, of_lists, of_named, of_parameters, of_sets, of_shells, of_unexports, of_variables, required_after_default, starred, under, unknown_dependency}
 
 -- What the rules read of a recipe.
 pub record Outline : Type 0 where
@@ -154,7 +154,7 @@ module _ (rs qs : List (Recipe UnresolvedDependency)) (alike : AreAlike rs qs) w
     needed = ap (λ (o : Outline). get_or o.needed q false) (sym (at i)) ∙ f.needed;
   }
 
-  pub parameters_alike : (c : Cause) → Parameters rs c → Parameters qs c
+  pub parameters_alike : (c : Cause) → BreaksParameters rs c → BreaksParameters qs c
   parameters_alike _ (duplicate_parameter {second} {recipe} i p q h e r x) =
       duplicate_parameter i p q (inside i h) (sym (name i) ∙ e) (subst (λ ns. Repeats ns p q) (ap (λ (o : Outline). o.parameters) (at i)) r) (subst (λ (ns : List Name). slice_get ns q ≡ Some second) (ap (λ (o : Outline). o.named) (at i)) x)
   parameters_alike _ (required_after_default {second} i q h f x) =
@@ -169,11 +169,11 @@ module _ (rs qs : List (Recipe UnresolvedDependency)) (alike : AreAlike rs qs) w
       = invalid_attribute k (subst (λ (ns : List (NamedAttribute Expression)). slice_get ns k ≡ Some named) (ap (λ (o : Outline). o.attributes) (at i)) there) is in
       subst (λ t. ScriptAttribute (recipe_at qs i) (Broken t (kind.InvalidShellRecipeAttribute (lexeme t) (text_of_name named.name)))) (sym (tokens i)) same
 
-  shell_alike : (answers : SyntaxAnswers) (s : Settings) (i : ℕ) (c : Cause) → ShellRecipe answers s (recipe_at rs i) c → ShellRecipe answers s (recipe_at qs i) c
-  shell_alike answers s i c (of_lines isnt b) = of_lines (sym (script_alike s i) ∙ isnt) (subst (λ (ls : List Line). Lines answers s ls c) (ap (λ (o : Outline). o.body) (at i)) b)
+  shell_alike : (answers : SyntaxAnswers) (s : Settings) (i : ℕ) (c : Cause) → BreaksShellRecipe answers s (recipe_at rs i) c → BreaksShellRecipe answers s (recipe_at qs i) c
+  shell_alike answers s i c (of_lines isnt b) = of_lines (sym (script_alike s i) ∙ isnt) (subst (λ (ls : List Line). BreaksLines answers s ls c) (ap (λ (o : Outline). o.body) (at i)) b)
   shell_alike answers s i c (of_attributes isnt b) = of_attributes (sym (script_alike s i) ∙ isnt) (told_at i c b)
 
-  pub shells_alike : (answers : SyntaxAnswers) (s : Settings) (c : Cause) → Shells answers s rs c → Shells answers s qs c
+  pub shells_alike : (answers : SyntaxAnswers) (s : Settings) (c : Cause) → BreaksShells answers s rs c → BreaksShells answers s qs c
   shells_alike answers s c (of_recipe i h b) = of_recipe i (inside i h) (shell_alike answers s i c b)
 
   marks : (i : ℕ) → is_marked (recipe_at rs i) ≡ is_marked (recipe_at qs i)
@@ -188,9 +188,9 @@ module _ (rs qs : List (Recipe UnresolvedDependency)) (alike : AreAlike rs qs) w
     name = λ e. subst (λ n. slice_cmp nat_cmp n (name_of (recipe_at qs i)) ≢ Less) (name j) (subst (λ n. slice_cmp nat_cmp (name_of (recipe_at rs j)) n ≢ Less) (name i) (l.name (lines i ∙ e ∙ sym (lines j))));
   }
 
-  pub defaults_alike : (c : Cause) → Defaults rs c → Defaults qs c
+  pub defaults_alike : (c : Cause) → BreaksDefaults rs c → BreaksDefaults qs c
   defaults_alike _ (duplicate_default i j h l apart first second later) =
-      subst (λ t. Defaults qs (Broken t (kind.DuplicateDefault (lexeme t)))) (sym (tokens j))
+      subst (λ t. BreaksDefaults qs (Broken t (kind.DuplicateDefault (lexeme t)))) (sym (tokens j))
       (duplicate_default i j (inside i h) (inside j l) apart (sym (marks i) ∙ first) (sym (marks j) ∙ second) (later_alike i j later))
 
   -- they define the same
@@ -205,7 +205,7 @@ module _ (rs qs : List (Recipe UnresolvedDependency)) (alike : AreAlike rs qs) w
   }
 
   -- and names depend on names
-  pub depends_on_alike : (dependent named : List ℕ) → DependsOn rs dependent named → DependsOn qs dependent named
+  pub depends_on_alike : (dependent named : List ℕ) → DependsOnRecipe rs dependent named → DependsOnRecipe qs dependent named
   depends_on_alike dependent named d = record {
     from = d.from;
     to = d.to;
@@ -225,7 +225,7 @@ module _ (rs qs : List (Recipe UnresolvedDependency)) (alike : AreAlike rs qs) w
   scopes_same : (answers : SyntaxAnswers) (s : Settings) (i : ℕ) → written_scopes answers s (recipe_at rs i) ≡ written_scopes answers s (recipe_at qs i)
   scopes_same answers s i = ap (λ (o : Outline). o.scopes answers s) (at i)
 
-  read_alike : (answers : SyntaxAnswers) (m : Known) (s : Settings) (i : ℕ) (c : Cause) → RecipeNames answers m s (recipe_at rs i) c → RecipeNames answers m s (recipe_at qs i) c
+  read_alike : (answers : SyntaxAnswers) (m : Known) (s : Settings) (i : ℕ) (c : Cause) → BreaksRecipeNames answers m s (recipe_at rs i) c → BreaksRecipeNames answers m s (recipe_at qs i) c
   read_alike answers m s i c w = record { from = w.from; there = subst (λ ss. Contains ss w.from) (scopes_same answers s i) w.there; wrong = w.wrong }
 
   attributes_same : (i : ℕ) → (recipe_at rs i).attributes ≡ (recipe_at qs i).attributes
@@ -333,11 +333,11 @@ expressions_read (r ∷ rs) = ap (λ es. recipe_expressions r ++ es) (expression
 
 -- they break the same rules
 module _ (layers : Layers) (m n : Contents) (alike : AreAlikeContents m n) where
-  headers_alike : (c : Cause) → Headers layers.syntax.conflicts m c → Headers layers.syntax.conflicts n c
+  headers_alike : (c : Cause) → BreaksHeaders layers.syntax.conflicts m c → BreaksHeaders layers.syntax.conflicts n c
   headers_alike c (of_parameters b) = of_parameters (parameters_alike m.recipes n.recipes alike.recipes c b)
-  headers_alike c (of_sets b) = of_sets (subst (λ (ss : List Set). Sets layers.syntax.conflicts ss c) alike.sets b)
-  headers_alike c (of_unexports b) = of_unexports (subst (λ (ns : List Name). Unexports ns c) alike.unexports b)
-  headers_alike c (of_named b) = of_named (subst (λ (ns : List Naming). Named ns c) alike.named b)
+  headers_alike c (of_sets b) = of_sets (subst (λ (ss : List Set). BreaksSettings layers.syntax.conflicts ss c) alike.sets b)
+  headers_alike c (of_unexports b) = of_unexports (subst (λ (ns : List Name). BreaksUnexports ns c) alike.unexports b)
+  headers_alike c (of_named b) = of_named (subst (λ (ns : List Naming). BreaksNamings ns c) alike.named b)
 
   signed_alike : signatures m.functions ≡ signatures n.functions
   signed_alike = sym (signatures_bare m.functions) ∙ ap signatures alike.functions ∙ signatures_bare n.functions
@@ -351,16 +351,16 @@ module _ (layers : Layers) (m n : Contents) (alike : AreAlikeContents m n) where
   variables_alike : variable_names m.variables ≡ variable_names n.variables
   variables_alike = sym (variables_located m.variables) ∙ ap variable_names alike.variables ∙ variables_located n.variables
 
-  names_alike : (c : Cause) → Names m c → Names n c
-  names_alike c (of_variables b) = of_variables (subst (λ (ns : List Name). Variables (allows_variables n.sets) (variable_names n.variables) ns c) alike.unexports
-      (subst (λ (ns : List Name). Variables (allows_variables n.sets) ns m.unexports c) variables_alike (subst (λ (ss : List Set). Variables (allows_variables ss) (variable_names m.variables) m.unexports c) alike.sets b)))
-  names_alike c (of_functions b) = of_functions (subst (λ (ss : List Signature). Functions ss c) signed_alike b)
+  names_alike : (c : Cause) → BreaksDefinitions m c → BreaksDefinitions n c
+  names_alike c (of_variables b) = of_variables (subst (λ (ns : List Name). BreaksVariables (allows_variables n.sets) (variable_names n.variables) ns c) alike.unexports
+      (subst (λ (ns : List Name). BreaksVariables (allows_variables n.sets) ns m.unexports c) variables_alike (subst (λ (ss : List Set). BreaksVariables (allows_variables ss) (variable_names m.variables) m.unexports c) alike.sets b)))
+  names_alike c (of_functions b) = of_functions (subst (λ (ss : List Signature). BreaksFunctions ss c) signed_alike b)
 
-  bodies_alike : (s : Settings) (c : Cause) → Bodies layers.syntax s m c → Bodies layers.syntax s n c
+  bodies_alike : (s : Settings) (c : Cause) → BreaksBodies layers.syntax s m c → BreaksBodies layers.syntax s n c
   bodies_alike s c (of_shells b) = of_shells (shells_alike m.recipes n.recipes alike.recipes layers.syntax s c b)
-  bodies_alike s c (of_lists b) = of_lists (subst (λ (us : List ListUse). Lists s.lists (texts_of_names (function_names (signatures n.functions))) us c) alike.lists
-      (subst (λ (ss : List Signature). Lists s.lists (texts_of_names (function_names ss)) m.lists c) signed_alike b))
-  bodies_alike s c (of_defined b) = of_defined (subst (λ ds. Redefined s.allow_duplicate_recipes ds c) defined_same b)
+  bodies_alike s c (of_lists b) = of_lists (subst (λ (us : List ListUse). BreaksLists s.lists (texts_of_names (function_names (signatures n.functions))) us c) alike.lists
+      (subst (λ (ss : List Signature). BreaksLists s.lists (texts_of_names (function_names ss)) m.lists c) signed_alike b))
+  bodies_alike s c (of_defined b) = of_defined (subst (λ ds. BreaksRedefinition s.allow_duplicate_recipes ds c) defined_same b)
 
   -- they have the same constants
   constants_same : constant_expressions m ≡ constant_expressions n
@@ -387,24 +387,24 @@ module _ (layers : Layers) (m n : Contents) (alike : AreAlikeContents m n) where
   pub evaluated_alike : (it : Evaluated) → IsEvaluated layers m it → IsEvaluated layers n it
   evaluated_alike it is = record { constants = constants_alike it.constants is.constants; settings = sym (settings_alike it.constants) ∙ is.settings }
 
-  values_alike : (c : Cause) → Constants layers m c → Constants layers n c
+  values_alike : (c : Cause) → BreaksConstants layers m c → BreaksConstants layers n c
   values_alike c (in_setting {e} there b) =
       in_setting (subst (λ (ss : List Set). Contains (flat_map set_expressions ss) e) alike.sets there) (subst (λ (k : Known). Misnames k none_hidden e c) known_alike b)
   values_alike _ (constants_fault {wanted} asks none) = constants_fault (asks_alike wanted asks) none
   values_alike _ (settings_fault {values} are none) = settings_fault (constants_alike values are) (sym (settings_alike values) ∙ none)
 
-  pub docs_alike : (values : Values) (c : Cause) → Docs layers.syntax layers.evaluator m values c → Docs layers.syntax layers.evaluator n values c
+  pub docs_alike : (values : Values) (c : Cause) → BreaksDocs layers.syntax layers.evaluator m values c → BreaksDocs layers.syntax layers.evaluator n values c
   docs_alike values c (in_doc {e} there b) =
       in_doc (subst (λ (es : List Expression). Contains es e) alike.docs there) (subst (λ (k : Known). Misnames k none_hidden e c) known_alike b)
   docs_alike values _ (doc_fault {e} there none) =
       doc_fault (subst (λ (es : List Expression). Contains es e) alike.docs there)
       ((λ i. layers.evaluator.value (sym functions_alike i) values (bare e)) ∙ none)
 
-  bodies_and_docs_alike : (it : Evaluated) (c : Cause) → BodiesAndDocs layers m it c → BodiesAndDocs layers n it c
+  bodies_and_docs_alike : (it : Evaluated) (c : Cause) → BreaksBodiesAndDocs layers m it c → BreaksBodiesAndDocs layers n it c
   bodies_and_docs_alike it c (in_docs b) = in_docs (docs_alike it.constants c b)
   bodies_and_docs_alike it c (in_bodies b) = in_bodies (bodies_alike it.settings c b)
 
-  under_alike : (broken other : Evaluated → Cause → Type 0) → ((it : Evaluated) (c : Cause) → broken it c → other it c) → (c : Cause) → Under (IsEvaluated layers m) broken c → Under (IsEvaluated layers n) other c
+  under_alike : (broken other : Evaluated → Cause → Type 0) → ((it : Evaluated) (c : Cause) → broken it c → other it c) → (c : Cause) → WhereEvaluated (IsEvaluated layers m) broken c → WhereEvaluated (IsEvaluated layers n) other c
   under_alike broken other each c (under {a = it} is b) = under (evaluated_alike it is) (each it c b)
 
   -- with these links the one breaks what the other does
@@ -413,7 +413,7 @@ module _ (layers : Layers) (m n : Contents) (alike : AreAlikeContents m n) where
   breaks_alike links other each OfNames c b = names_alike c b
   breaks_alike links other each OfExpressions c b = subst (λ (k : Known). Expressions k c) known_alike b
   breaks_alike links other each OfConstants c b = values_alike c b
-  breaks_alike links other each OfBodies c b = under_alike (BodiesAndDocs layers m) (BodiesAndDocs layers n) bodies_and_docs_alike c b
+  breaks_alike links other each OfBodies c b = under_alike (BreaksBodiesAndDocs layers m) (BreaksBodiesAndDocs layers n) bodies_and_docs_alike c b
   breaks_alike links other each OfDependencies c b = under_alike (λ (it : Evaluated). links layers it OfDependencies) (λ (it : Evaluated). other layers it OfDependencies) (λ it. each it OfDependencies) c b
   breaks_alike links other each OfRecipes c b = under_alike (λ (it : Evaluated). links layers it OfRecipes) (λ (it : Evaluated). other layers it OfRecipes) (λ it. each it OfRecipes) c b
   breaks_alike links other each OfAliases c b = under_alike (λ (it : Evaluated). links layers it OfAliases) (λ (it : Evaluated). other layers it OfAliases) (λ it. each it OfAliases) c b

@@ -17,7 +17,7 @@ use Rattle.just_ast_definitions.specs.declared.setting.Set.{Set}
 use Rattle.just_errors.specs.Causes.{Broken, Keeps}
 use Rattle.just_errors.specs.declared.compile_error.CompileErrorKind.TheVariants as kind
 use Rattle.just_names.specs.Index.{AreDifferent, IsLast, Repeats, name_at}
-use Rattle.just_module_contents.specs.Rules.{SetTwice, Sets, duplicate_set, incompatible_settings, set_twice}
+use Rattle.just_module_contents.specs.Rules.{SetTwice, BreaksSettings, duplicate_set, incompatible_settings, set_twice}
 use Rattle.just_module_contents.specs.Settings.{Conflicts, are_incompatible, excludes, line_at, no_set, place_at, set_at, setting_at, setting_names, stands_in}
 use Rattle.just_names.proofs.Indexing.{texts_apart}
 
@@ -42,7 +42,7 @@ set_twice_told sets i j first second place setting line repeats a b at is on =
 -- two settings of which neither may be set beside the other
 pub incompatible_told : (conflicts : Conflicts) (sets : List Set) (i j : ℕ) (first second : Set) (place : Place) (a b : Text) (line : ℕ) → i < j → j < length sets → excludes conflicts sets i j ≡ true → excludes conflicts sets j i ≡ true
     → slice_get sets i ≡ Some first → slice_get sets j ≡ Some second → place ≡ second.name.token → a ≡ text_of_name first.name → line ≡ first.name.token.line → b ≡ text_of_name second.name
-    → Sets conflicts sets (Broken place (kind.IncompatibleSettings a line b))
+    → BreaksSettings conflicts sets (Broken place (kind.IncompatibleSettings a line b))
 incompatible_told conflicts sets i j first second place a b line h l x y e f at is on known =
     let one = get_or_from_slice_get sets i first no_set e in
     let two = get_or_from_slice_get sets j second no_set f in
@@ -50,7 +50,7 @@ incompatible_told conflicts sets i j first second place a b line h l x y e f at 
     let is_same : setting_at sets i ≡ a = ap (λ (s : Set). text_of_name s.name) one ∙ sym is in
     let on_same : line_at sets i ≡ line = ap (λ (s : Set). s.name.token.line) one ∙ sym on in
     let as_same : setting_at sets j ≡ b = ap (λ (s : Set). text_of_name s.name) two ∙ sym known in
-    subst (Sets conflicts sets) (λ k. Broken (at_same k) (kind.IncompatibleSettings (is_same k) (on_same k) (as_same k))) (incompatible_settings i j h l (λ k. x k && y k))
+    subst (BreaksSettings conflicts sets) (λ k. Broken (at_same k) (kind.IncompatibleSettings (is_same k) (on_same k) (as_same k))) (incompatible_settings i j h l (λ k. x k && y k))
 
 -- whether the second of two may not be set beside the first
 pub excluded_is : (conflicts : Conflicts) (sets : List Set) (i j : ℕ) (first second : Set) (name : Text) (found : List Keyword) → slice_get sets i ≡ Some first → slice_get sets j ≡ Some second → name ≡ text_of_name second.name → found ≡ conflicts first.value
@@ -130,6 +130,6 @@ module _ (conflicts : Conflicts) (sets : List Set) (place : ℕ) (second : Set) 
       by_cases true e = looked i h (subst (λ (ks : List Keyword). stands_in (setting_at sets i) ks ≡ true) (sym (ap (λ m. take m xs) (sym all) ∙ take_all (length xs) xs (omega arith))) (sym (among i) ∙ sym e))
 
 -- no setting is set twice, and of no two neither may be set beside the other
-pub sets_kept : (conflicts : Conflicts) (sets : List Set) → AreDifferent (setting_names sets) → ((j : ℕ) → j < length sets → (i : ℕ) → i < j → are_incompatible conflicts sets i j ≡ false) → Keeps (Sets conflicts sets)
+pub sets_kept : (conflicts : Conflicts) (sets : List Set) → AreDifferent (setting_names sets) → ((j : ℕ) → j < length sets → (i : ℕ) → i < j → are_incompatible conflicts sets i j ≡ false) → Keeps (BreaksSettings conflicts sets)
 sets_kept conflicts sets different none _ (set_twice (duplicate_set i j r)) = different i j r.apart r.within r.same
 sets_kept conflicts sets different none _ (incompatible_settings i j h l e) = let wrong : false ≡ true = sym (none j l i h) ∙ e in cc

@@ -20,7 +20,7 @@ use Rattle.just_parts.specs.Items.{Ast, Item}
 use Rattle.just_ast_items.specs.declared.item.Item.TheVariants as item
 use Rattle.just_paths.specs.declared.modulepath.Modulepath.{Modulepath}
 use Rattle.just_parts.proofs.AstKeys.{key_same, keys_equivalent}
-use Rattle.just_module_headers.specs.Files.{ArePlaced, ArePlacesOf, AreRows, LeadsTo, all_led, asts_in, led, led_from, led_in}
+use Rattle.just_module_headers.specs.Files.{ArePlaced, AreKeyPlaces, AreRows, HasPlaces, all_led, asts_in, led, led_from, led_in}
 use Rattle.just_module_headers.specs.Reading.{Reading, Submodule, declared, enabled_items, imports_of, items_in, located_ast, reading_of, submodules_of}
 use Rattle.just_module_headers.specs.Joined.{AreGraphs}
 use Rattle.just_module_headers.proofs.Joining.{in_row}
@@ -54,7 +54,7 @@ inside_more p row h all zero d l = h
 inside_more p row h all (suc k) d l = all k d (omega (arith, l))
 
 -- a table's places lead back to the keys
-module _ (keys : List AstKey) (d : AstKey) (table : AstKey → Option ℕ) (leads : LeadsTo keys table) where
+module _ (keys : List AstKey) (d : AstKey) (table : AstKey → Option ℕ) (leads : HasPlaces keys table) where
   back : (k : AstKey) (p : ℕ) (o : Option ℕ) → table k ≡ o → o ≡ Some p → MatchOption o ((q : ℕ) → slice_get keys q ≡ Some k → ⊥) (λ q. slice_get keys q ≡ Some k) → slice_get keys p ≡ Some k
   back k p None e h m = cc
   back k p (Some q) e h m = subst (λ r. slice_get keys r ≡ Some k) (some_same h) m
@@ -62,7 +62,7 @@ module _ (keys : List AstKey) (d : AstKey) (table : AstKey → Option ℕ) (lead
   pub place_back : (k : AstKey) (p : ℕ) → table k ≡ Some p → slice_get keys p ≡ Some k
   place_back k p e = back k p (table k) refl e (leads k)
 
-  pub places_back : (found : List AstKey) (row : List ℕ) → ArePlacesOf table found row → map (λ p. get_or keys p d) row ≡ found
+  pub places_back : (found : List AstKey) (row : List ℕ) → AreKeyPlaces table found row → map (λ p. get_or keys p d) row ≡ found
   places_back [] [] e = refl
   places_back [] (p ∷ row) e = cc
   places_back (k ∷ found) [] e = cc
@@ -71,7 +71,7 @@ module _ (keys : List AstKey) (d : AstKey) (table : AstKey → Option ℕ) (lead
       let rest : map table found ≡ map Some row = cc in
       (λ i. get_or_from_slice_get keys p k d (place_back k p head) i ∷ places_back found row rest i)
 
-  pub places_inside : (found : List AstKey) (row : List ℕ) → ArePlacesOf table found row → All (λ p. p < length keys) row
+  pub places_inside : (found : List AstKey) (row : List ℕ) → AreKeyPlaces table found row → All (λ p. p < length keys) row
   places_inside [] [] e = λ n x l. absurd (omega (arith, l))
   places_inside [] (p ∷ row) e = cc
   places_inside (k ∷ found) [] e = cc

@@ -16,7 +16,7 @@ use Rattle.just_graph.specs.Steps.{IsCircle, IsWalk, Reached, from_start, from_m
 use Rattle.just_graph.proofs.Members.{In, contained, from_flat, is_in}
 use Rattle.just_module_headers.specs.Joined.{AreGraphs, AreJoined, IsJoined, StaysJoined}
 use Rattle.just_module_headers.specs.declared.files.Rows.{Rows}
-use Rattle.just_module_headers.specs.declared.joined.Joined.{Joined}
+use Rattle.just_module_headers.specs.declared.join.Joined.{Joined}
 
 -- one more element
 flat_append : (f : ℕ → List ℕ) (xs ys : List ℕ) → flat_map f (xs ++ ys) ≡ flat_map f xs ++ flat_map f ys

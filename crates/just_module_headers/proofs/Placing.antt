@@ -6,7 +6,7 @@ use Rattle.just_graph.proofs.Index.{some_same, none_some}
 use Rattle.just_graph.proofs.Told.{get_last}
 use Rattle.just_parts.specs.Asts.{AstKey, same_ast_key}
 use Rattle.just_parts.proofs.AstKeys.{key_same}
-use Rattle.just_module_headers.specs.Files.{LeadsTo}
+use Rattle.just_module_headers.specs.Files.{HasPlaces}
 
 -- an element of a list with one more behind it
 pub get_pushed : {A : Type 0} (xs : List A) (x : A) (p : ℕ) (y : A) → slice_get (xs ++ x ∷ []) p ≡ Some y → (slice_get xs p ≡ Some y) ⊎ (x ≡ y)
@@ -34,7 +34,7 @@ module _ (keys : List AstKey) (k q : AstKey) where
       (get_before keys (k ∷ []) r q h)
 
 -- one more key has the next place
-pub leads_more : (keys more : List AstKey) (k l : AstKey) (n : ℕ) (old new : AstKey → Option ℕ) → n ≡ length keys → l ≡ k → more ≡ keys ++ k ∷ [] → ((q : AstKey) → new q ≡ cond (same_ast_key l q) (Some n) (old q)) → LeadsTo keys old → LeadsTo more new
+pub leads_more : (keys more : List AstKey) (k l : AstKey) (n : ℕ) (old new : AstKey → Option ℕ) → n ≡ length keys → l ≡ k → more ≡ keys ++ k ∷ [] → ((q : AstKey) → new q ≡ cond (same_ast_key l q) (Some n) (old q)) → HasPlaces keys old → HasPlaces more new
 leads_more keys more k l n old new count same pushed is leads =
-    subst (λ ks. LeadsTo ks new) (sym pushed)
+    subst (λ ks. HasPlaces ks new) (sym pushed)
     (λ q. leads_on keys k q (old q) (new q) (same_ast_key k q) refl (is q ∙ ap (λ m. cond (same_ast_key l q) (Some m) (old q)) count ∙ ap (λ x. cond (same_ast_key x q) (Some (length keys)) (old q)) same) (leads q))

@@ -14,8 +14,8 @@ use Rattle.just_module_contents.specs.Recipes.{recipes_of}
 use Rattle.just_module_contents.specs.Resolved.{HasPriors, unresolved_numbers}
 
 -- a table of paths has the file of each key
-abbrev pub HavePaths : (AstKey → Option Ast) → (Text → Option Text) → Type 0
-HavePaths asts paths = (k : AstKey) → IsSome (asts k) → IsSome (paths k.1)
+abbrev pub TableHasPaths : (AstKey → Option Ast) → (Text → Option Text) → Type 0
+TableHasPaths asts paths = (k : AstKey) → IsSome (asts k) → IsSome (paths k.1)
 
 -- the numbers of variables
 abbrev pub assignment_numbers : List Assignment → List ℕ

@@ -22,15 +22,15 @@ abbrev pub asts_in : Files → List Ast
 asts_in files = map (λ (a : Bor Ast). a.now) files.asts.items
 
 -- a table leads from keys to their places in a list, and no other key has one
-abbrev pub LeadsTo : List AstKey → (AstKey → Option ℕ) → Type 0
-LeadsTo keys places = (k : AstKey) → MatchOption (places k) ((p : ℕ) → slice_get keys p ≡ Some k → ⊥) (λ p. slice_get keys p ≡ Some k)
+abbrev pub HasPlaces : List AstKey → (AstKey → Option ℕ) → Type 0
+HasPlaces keys places = (k : AstKey) → MatchOption (places k) ((p : ℕ) → slice_get keys p ≡ Some k → ⊥) (λ p. slice_get keys p ≡ Some k)
 
 -- Each entry of a table of asts has a place.
 pub record ArePlaced (entries : List (AstKey × Ast)) (files : Files) : Type 0 where
   pub distinct : IsDistinct same_ast_key (keys_of entries)
   pub keys : keys_in files ≡ keys_of entries
   pub asts : asts_in files ≡ values_of entries
-  pub places : LeadsTo (keys_of entries) (get same_ast_key files.places)
+  pub places : HasPlaces (keys_of entries) (get same_ast_key files.places)
 
 -- the keys to which an item of a module's file leads: those of modules, or of imports
 abbrev pub led : Bool → Modulepath → Item → List AstKey
@@ -61,12 +61,12 @@ abbrev pub HoldsAll : (AstKey → Option ℕ) → List AstKey → Type 0
 HoldsAll table found = AllByRecursion (λ k. IsSome (table k)) found
 
 -- the places that a table has for keys
-abbrev pub ArePlacesOf : (AstKey → Option ℕ) → List AstKey → List ℕ → Type 0
-ArePlacesOf table found places = map table found ≡ map Some places
+abbrev pub AreKeyPlaces : (AstKey → Option ℕ) → List AstKey → List ℕ → Type 0
+AreKeyPlaces table found places = map table found ≡ map Some places
 
 -- a row of places for each file: those of the keys to which its items lead
 abbrev pub AreRowsOf : Bool → (Item → Bool) → Files → List (Vec ℕ Global) → Type 0
-AreRowsOf inside enabled files rows = EachRow (λ p row. ArePlacesOf (get same_ast_key files.places) (led_from inside enabled (asts_in files) p) row) (length files.asts.items) rows
+AreRowsOf inside enabled files rows = EachRow (λ p row. AreKeyPlaces (get same_ast_key files.places) (led_from inside enabled (asts_in files) p) row) (length files.asts.items) rows
 
 -- the keys to which items lead have places
 abbrev pub HoldsEach : (Item → Bool) → Files → Type 0
@@ -74,5 +74,5 @@ HoldsEach enabled files = (inside : Bool) (p : ℕ) → HoldsAll (get same_ast_k
 
 -- the row of each file: the places of the keys to which its items lead
 pub record AreRows (enabled : Item → Bool) (files : Files) (rows : Rows) : Type 0 where
-  pub imports : EachRow (λ p row. ArePlacesOf (get same_ast_key files.places) (led_from false enabled (asts_in files) p) row) (length files.asts.items) rows.imports.items
-  pub modules : EachRow (λ p row. ArePlacesOf (get same_ast_key files.places) (led_from true enabled (asts_in files) p) row) (length files.asts.items) rows.modules.items
+  pub imports : EachRow (λ p row. AreKeyPlaces (get same_ast_key files.places) (led_from false enabled (asts_in files) p) row) (length files.asts.items) rows.imports.items
+  pub modules : EachRow (λ p row. AreKeyPlaces (get same_ast_key files.places) (led_from true enabled (asts_in files) p) row) (length files.asts.items) rows.modules.items

@@ -4,7 +4,7 @@ use Rattle.std.specs.List.{All}
 use Rattle.just_graph.specs.Graph.{HasEdge, IsGraph, targets}
 use Rattle.just_graph.specs.Steps.{IsOrder, Reached}
 use Rattle.just_graph.specs.Levels.{AreLevels}
-use Rattle.just_module_headers.specs.declared.joined.Joined.{Joined}
+use Rattle.just_module_headers.specs.declared.join.Joined.{Joined}
 use Rattle.just_module_headers.specs.declared.files.Rows.{Rows}
 
 -- rows of so many files, whose places lead to places

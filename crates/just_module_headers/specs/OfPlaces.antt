@@ -14,9 +14,9 @@ use Rattle.just_module_contents.specs.declared.definitions.Naming.{Naming}
 use Rattle.just_names.specs.Index.{AreDifferent}
 use Rattle.just_module_headers.specs.Files.{asts_in}
 use Rattle.just_module_contents.specs.Named.{contents_from, name_by, naming_by, said_from, recipes_from}
-use Rattle.just_module_contents.specs.Rules.{Named}
+use Rattle.just_module_contents.specs.Rules.{BreaksNamings}
 use Rattle.just_module_headers.specs.declared.files.Files.{Files}
-use Rattle.just_module_headers.specs.declared.joined.Joined.{Joined}
+use Rattle.just_module_headers.specs.declared.join.Joined.{Joined}
 
 -- the recipes of the module at a place, and the names of the modules in it
 abbrev pub recipes_of_place : (Item → Bool) → Files → Joined → ℕ → List (Recipe UnresolvedDependency)
@@ -41,12 +41,12 @@ contents_of_place enabled files joined p = contents_from enabled (asts_in files)
 pub record RepeatsNames (enabled : Item → Bool) (files : Files) (joined : Joined) (order : List ℕ) (c : Cause) : Type 0 where
   pub at : ℕ
   pub there : at < length order
-  pub broken : Named (namings_of_place enabled files joined (slice_index order at)) c
+  pub broken : BreaksNamings (namings_of_place enabled files joined (slice_index order at)) c
 
 -- the files of each module of an order have places
 abbrev pub HaveFiles : Files → Joined → List ℕ → Type 0
 HaveFiles files joined order = (k : ℕ) → k < length order → All (λ q. q < length files.asts.items) (targets joined.files.items (slice_index order k))
 
 -- the modules and the aliases in each module of an order have different names
-abbrev pub HaveNames : (Item → Bool) → Files → Joined → List ℕ → Type 0
-HaveNames enabled files joined order = (k : ℕ) → k < length order → AreDifferent (texts_of_named (namings_of_place enabled files joined (slice_index order k)))
+abbrev pub NamesDiffer : (Item → Bool) → Files → Joined → List ℕ → Type 0
+NamesDiffer enabled files joined order = (k : ℕ) → k < length order → AreDifferent (texts_of_named (namings_of_place enabled files joined (slice_index order k)))

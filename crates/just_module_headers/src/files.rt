@@ -5,7 +5,7 @@ ghost use Rattle.std.specs.HashMap.{get};
 ghost use Rattle.std.specs.Option.{option_to_list};
 ghost use Rattle.just_graph.specs.Building.{EachRow};
 ghost use Rattle.just_parts.specs.Asts.{same_ast_key};
-ghost use Rattle.just_module_headers.specs.Files.{ArePlaced, ArePlacesOf, AreRows, AreRowsOf, HoldsAll, HoldsEach, asts_in, led, led_from, led_of};
+ghost use Rattle.just_module_headers.specs.Files.{ArePlaced, AreKeyPlaces, AreRows, AreRowsOf, HoldsAll, HoldsEach, asts_in, led, led_from, led_of};
 
 use just_data::Text;
 use just_module_contents::is_enabled;
@@ -72,7 +72,7 @@ fn row<'src, S: Syntax>(
     inside: bool,
 ) -> Result<Vec<usize>, AllocError>
     requires { HoldsAll (get same_ast_key places.now) (led_of inside (S.answers syntax.now).enabled ast.now) }
-    ensures { IfOk result (λ row. ArePlacesOf (get same_ast_key places.now) (led_of inside (S.answers syntax.now).enabled ast.now) row.items) }
+    ensures { IfOk result (λ row. AreKeyPlaces (get same_ast_key places.now) (led_of inside (S.answers syntax.now).enabled ast.now) row.items) }
 {
     let mut row = Vec::new(alloc);
     for item in ast.items.as_slice() {

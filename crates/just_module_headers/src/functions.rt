@@ -6,7 +6,7 @@ ghost use Rattle.just_ast_definitions.specs.declared.function_definition.Functio
 ghost use Rattle.just_module_contents.specs.Contents.{function_names, signature, signatures};
 ghost use Rattle.just_names.specs.Index.{texts_of_names, AreDifferent};
 ghost use Rattle.just_module_contents.specs.Definitions.{functions_in};
-ghost use Rattle.just_module_contents.specs.Rules.{Functions, RepeatsParameter};
+ghost use Rattle.just_module_contents.specs.Rules.{BreaksFunctions, RepeatsParameter};
 
 use just_data::BorrowedText;
 use just_module_contents::definitions::Definitions;
@@ -61,7 +61,7 @@ fn check_different<'a, 'src>(
     definitions: &Definitions<'src, 'a>,
 ) -> Result<(), Error<'src>>
     ensures kept { OnOk result (AreDifferent (texts_of_names (function_names (signatures (functions_in definitions.now))))) }
-    ensures named { IfErr result (Reports (Functions (signatures (functions_in definitions.now)))) }
+    ensures named { IfErr result (Reports (BreaksFunctions (signatures (functions_in definitions.now)))) }
 {
     let names = definitions.function_names(alloc)?;
     match repeated_name(alloc, names.as_slice())? {
@@ -80,8 +80,8 @@ pub fn check_functions<'a, 'src>(
     alloc: Global,
     definitions: &Definitions<'src, 'a>,
 ) -> Result<(), Error<'src>>
-    ensures kept { OnOk result (Keeps (Functions (signatures (functions_in definitions.now)))) }
-    ensures named { IfErr result (Reports (Functions (signatures (functions_in definitions.now)))) }
+    ensures kept { OnOk result (Keeps (BreaksFunctions (signatures (functions_in definitions.now)))) }
+    ensures named { IfErr result (Reports (BreaksFunctions (signatures (functions_in definitions.now)))) }
 {
     check_different(alloc, definitions)?;
     for place in 0..definitions.functions.len() {

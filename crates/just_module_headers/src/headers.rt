@@ -6,7 +6,7 @@ ghost use Rattle.just_module_contents.specs.Recipes.{FollowsDefault, NoneFollows
 ghost use Rattle.just_module_contents.specs.Contents.{texts_of_named};
 ghost use Rattle.just_module_contents.specs.Definitions.{contents_in, recipes_in};
 ghost use Rattle.just_errors.specs.Causes.{Keeps, Reports};
-ghost use Rattle.just_module_contents.specs.Rules.{Headers, Named, Parameters, Unexports};
+ghost use Rattle.just_module_contents.specs.Rules.{BreaksHeaders, BreaksNamings, BreaksParameters, BreaksUnexports};
 
 use crate::settings::check_sets;
 use just_data::BorrowedText;
@@ -69,7 +69,7 @@ fn check_defaults_at<'a, 'src>(
 ) -> Result<(), Error<'src>>
     requires { place < length definitions.now.recipes.items }
     ensures kept { OnOk result (NoneFollows (recipe_at (recipes_in definitions.now) place).parameters) }
-    ensures named { IfErr result (Reports (Parameters (recipes_in definitions.now))) }
+    ensures named { IfErr result (Reports (BreaksParameters (recipes_in definitions.now))) }
 {
     let parameters = definitions.recipe_at(place).parameters.as_slice();
     match needed_after_default(parameters) {
@@ -94,7 +94,7 @@ fn check_names_at<'a, 'src>(
 ) -> Result<(), Error<'src>>
     requires { place < length definitions.now.recipes.items }
     ensures kept { OnOk result (AreDifferent (parameter_names (recipe_at (recipes_in definitions.now) place))) }
-    ensures named { IfErr result (Reports (Parameters (recipes_in definitions.now))) }
+    ensures named { IfErr result (Reports (BreaksParameters (recipes_in definitions.now))) }
 {
     let recipe = definitions.recipe_at(place);
     let parameters = recipe.parameters.as_slice();
@@ -119,8 +119,8 @@ fn check_parameters<'a, 'src>(
     alloc: Global,
     definitions: &Definitions<'src, 'a>,
 ) -> Result<(), Error<'src>>
-    ensures kept { OnOk result (Keeps (Parameters (recipes_in definitions.now))) }
-    ensures named { IfErr result (Reports (Parameters (recipes_in definitions.now))) }
+    ensures kept { OnOk result (Keeps (BreaksParameters (recipes_in definitions.now))) }
+    ensures named { IfErr result (Reports (BreaksParameters (recipes_in definitions.now))) }
 {
     for place in 0..definitions.recipes.len() {
         check_names_at(alloc, definitions, place)?;
@@ -132,7 +132,7 @@ fn check_parameters<'a, 'src>(
 /// Checks that the names of a module's modules and aliases are different.
 pub fn check_named<'src>(alloc: Global, namings: &[Naming<'src>]) -> Result<(), Error<'src>>
     ensures kept { OnOk result (AreDifferent (texts_of_named namings.now)) }
-    ensures named { IfErr result (Reports (Named namings.now)) }
+    ensures named { IfErr result (Reports (BreaksNamings namings.now)) }
 {
     let texts = Naming::texts(alloc, namings)?;
     match index_names(alloc, texts.as_slice())? {
@@ -151,7 +151,7 @@ fn check_unexports<'a, 'src>(
     definitions: &Definitions<'src, 'a>,
 ) -> Result<(), Error<'src>>
     ensures kept { OnOk result (AreDifferent (texts_of_names definitions.now.unexports.items)) }
-    ensures named { IfErr result (Reports (Unexports definitions.now.unexports.items)) }
+    ensures named { IfErr result (Reports (BreaksUnexports definitions.now.unexports.items)) }
 {
     let names = definitions.unexports.as_slice();
     match repeated_name(alloc, names)? {
@@ -176,8 +176,8 @@ pub fn check_headers<'a, 'src, S: Syntax>(
     syntax: &S,
 ) -> Result<(), Error<'src>>
     requires { AreDifferent (texts_of_named definitions.now.named.items) }
-    ensures kept { OnOk result (Keeps (Headers (S.answers syntax.now).conflicts (contents_in definitions.now))) }
-    ensures named { IfErr result (Reports (Headers (S.answers syntax.now).conflicts (contents_in definitions.now))) }
+    ensures kept { OnOk result (Keeps (BreaksHeaders (S.answers syntax.now).conflicts (contents_in definitions.now))) }
+    ensures named { IfErr result (Reports (BreaksHeaders (S.answers syntax.now).conflicts (contents_in definitions.now))) }
 {
     check_parameters(alloc, definitions)?;
     check_sets(alloc, definitions, syntax)?;

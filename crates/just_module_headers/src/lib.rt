@@ -4,7 +4,7 @@
 pub mod files;
 pub mod functions;
 pub mod headers;
-pub mod joined;
+pub mod join;
 pub mod module_names;
 mod settings;
 pub mod variables;

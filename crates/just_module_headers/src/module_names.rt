@@ -6,11 +6,11 @@ ghost use Rattle.just_errors.specs.Causes.{Reports};
 ghost use Rattle.just_module_headers.specs.Files.{asts_in};
 ghost use Rattle.just_module_contents.specs.Named.{naming_by, said_from};
 ghost use Rattle.just_module_contents.specs.Said.{said};
-ghost use Rattle.just_module_headers.specs.OfPlaces.{HaveFiles, HaveNames, RepeatsNames};
+ghost use Rattle.just_module_headers.specs.OfPlaces.{HaveFiles, NamesDiffer, RepeatsNames};
 
 use crate::files::Files;
 use crate::headers::check_named;
-use crate::joined::Joined;
+use crate::join::Joined;
 use just_module_contents::definitions::Naming;
 use just_module_contents::is_enabled;
 use just_parts::layers::{Error, Item, Syntax};
@@ -63,7 +63,7 @@ pub fn check_module_names<'a, 'src, S: Syntax>(
 ) -> Result<(), Error<'src>>
     requires places { All (λ p. p < length joined.now.files.items) order.now }
     requires files { HaveFiles files.now joined.now order.now }
-    ensures kept { OnOk result (HaveNames (S.answers syntax.now).enabled files.now joined.now order.now) }
+    ensures kept { OnOk result (NamesDiffer (S.answers syntax.now).enabled files.now joined.now order.now) }
     ensures named { IfErr result (Reports (RepeatsNames (S.answers syntax.now).enabled files.now joined.now order.now)) }
 {
     for place in order {

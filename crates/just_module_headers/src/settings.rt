@@ -6,7 +6,7 @@ ghost use Rattle.std.specs.HashMap.{get};
 ghost use Rattle.just_errors.specs.Causes.{Keeps, Reports};
 ghost use Rattle.just_module_contents.specs.Definitions.{sets_in};
 ghost use Rattle.just_names.specs.Index.{AreDifferent, IsIndex};
-ghost use Rattle.just_module_contents.specs.Rules.{SetTwice, Sets};
+ghost use Rattle.just_module_contents.specs.Rules.{SetTwice, BreaksSettings};
 ghost use Rattle.just_module_contents.specs.Settings.{are_incompatible, excludes, setting_names, stands_in};
 
 use just_data::{BorrowedText, Text};
@@ -65,7 +65,7 @@ fn check_pair<'a, 'src, S: Syntax>(
     requires there { second < length definitions.now.sets.items }
     requires excluded { excludes (S.answers syntax.now).conflicts (sets_in definitions.now) first second ≡ true }
     ensures kept { OnOk result (excludes (S.answers syntax.now).conflicts (sets_in definitions.now) second first ≡ false) }
-    ensures named { IfErr result (Reports (Sets (S.answers syntax.now).conflicts (sets_in definitions.now))) }
+    ensures named { IfErr result (Reports (BreaksSettings (S.answers syntax.now).conflicts (sets_in definitions.now))) }
 {
     let earlier = definitions.set_at(first);
     let name = &definitions.set_at(second).name;
@@ -95,7 +95,7 @@ fn check_beside<'a, 'src, S: Syntax>(
     requires index { IsIndex (setting_names (sets_in definitions.now)) (get bytes_eq index.now) }
     requires there { place < length definitions.now.sets.items }
     ensures kept { OnOk result ((i : ℕ) → i < place → are_incompatible (S.answers syntax.now).conflicts (sets_in definitions.now) i place ≡ false) }
-    ensures named { IfErr result (Reports (Sets (S.answers syntax.now).conflicts (sets_in definitions.now))) }
+    ensures named { IfErr result (Reports (BreaksSettings (S.answers syntax.now).conflicts (sets_in definitions.now))) }
 {
     let excluded = syntax.conflicts(alloc, &definitions.set_at(place).value)?;
     for keyword in excluded.as_slice() {
@@ -117,8 +117,8 @@ pub(crate) fn check_sets<'a, 'src, S: Syntax>(
     definitions: &Definitions<'src, 'a>,
     syntax: &S,
 ) -> Result<(), Error<'src>>
-    ensures kept { OnOk result (Keeps (Sets (S.answers syntax.now).conflicts (sets_in definitions.now))) }
-    ensures named { IfErr result (Reports (Sets (S.answers syntax.now).conflicts (sets_in definitions.now))) }
+    ensures kept { OnOk result (Keeps (BreaksSettings (S.answers syntax.now).conflicts (sets_in definitions.now))) }
+    ensures named { IfErr result (Reports (BreaksSettings (S.answers syntax.now).conflicts (sets_in definitions.now))) }
 {
     let index = index_sets(alloc, definitions)?;
     for place in 0..definitions.sets.len() {

@@ -5,7 +5,7 @@ ghost use Rattle.just_errors.specs.Causes.{Keeps, Reports};
 ghost use Rattle.just_module_contents.specs.Contents.{variable_names};
 ghost use Rattle.just_names.specs.Index.{texts_of_names, AreApart, AreDifferent};
 ghost use Rattle.just_module_contents.specs.Definitions.{contents_in, sets_in, variables_in};
-ghost use Rattle.just_module_contents.specs.Rules.{AssignedTwice, Names, Unexported, VariablesOf};
+ghost use Rattle.just_module_contents.specs.Rules.{AssignedTwice, BreaksDefinitions, Unexported, BreaksVariablesOf};
 ghost use Rattle.just_module_contents.specs.Settings.{allows_variables, is_allowing};
 
 use crate::functions::check_functions;
@@ -102,8 +102,8 @@ fn check_variables<'a, 'src>(
     alloc: Global,
     definitions: &Definitions<'src, 'a>,
 ) -> Result<(), Error<'src>>
-    ensures kept { OnOk result (Keeps (VariablesOf (contents_in definitions.now))) }
-    ensures named { IfErr result (Reports (VariablesOf (contents_in definitions.now))) }
+    ensures kept { OnOk result (Keeps (BreaksVariablesOf (contents_in definitions.now))) }
+    ensures named { IfErr result (Reports (BreaksVariablesOf (contents_in definitions.now))) }
 {
     let names = variable_names(alloc, definitions)?;
     if !allows_variables(definitions) {
@@ -117,8 +117,8 @@ pub fn check_names<'a, 'src>(
     alloc: Global,
     definitions: &Definitions<'src, 'a>,
 ) -> Result<(), Error<'src>>
-    ensures kept { OnOk result (Keeps (Names (contents_in definitions.now))) }
-    ensures named { IfErr result (Reports (Names (contents_in definitions.now))) }
+    ensures kept { OnOk result (Keeps (BreaksDefinitions (contents_in definitions.now))) }
+    ensures named { IfErr result (Reports (BreaksDefinitions (contents_in definitions.now))) }
 {
     check_variables(alloc, definitions)?;
     check_functions(alloc, definitions)

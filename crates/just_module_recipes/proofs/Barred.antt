@@ -11,7 +11,7 @@ use Rattle.just_module_contents.proofs.RecipePlaces.{one_place}
 use Rattle.just_module_contents.specs.Recipes.{name_of, named_paths, names_of, recipe_at}
 use Rattle.just_module_recipes.specs.Links.{Around, Disables, by_recipe, by_walk, found_by}
 use Rattle.just_module_recipes.specs.Making.{AreExact}
-use Rattle.just_module_recipes.specs.Rows.{AreRows, AreTold, Bars, IsOrderOf, IsTargetOf, SameMembers, gathered, itself, keys_at, near, no_set, through}
+use Rattle.just_module_recipes.specs.Rows.{AreRecipeRows, AreTold, Bars, IsOrderOf, IsTargetOf, SameMembers, gathered, itself, keys_at, near, no_set, through}
 use Rattle.just_module_recipes.specs.declared.targets.Target.{Target}
 use Rattle.just_module_recipes.specs.declared.targets.Target.TheVariants.{Near, Far, Gone}
 use Rattle.just_module_recipes.proofs.Finding.{gone_only, path_there}
@@ -82,7 +82,7 @@ told_more rows order o sets n all count h told s k l p = elim (cases_lt k n) [
       (subst (λ (xs : BTreeSet Modulepath). Contains xs.keys p ↔ Bars rows i p) (sym (get_or-set_same sets i all no_set inside)) (gathered_told sets rows i known all.keys s p))
 ]
 
-module _ (rs : List (Recipe UnresolvedDependency)) (different : AreDifferent (names_of rs)) (it : Around) (rows : List (List Target)) (are : AreRows rs it (length rs) rows) where
+module _ (rs : List (Recipe UnresolvedDependency)) (different : AreDifferent (names_of rs)) (it : Around) (rows : List (List Target)) (are : AreRecipeRows rs it (length rs) rows) where
   pub bars_disables : (i : ℕ) (p : Modulepath) → i < length rs → Bars rows i p → Disables rs it (name_of (recipe_at rs i)) p
   bars_disables i p h (itself set c m) =
       let t = zip_back (IsTargetOf rs it) (recipe_at rs i).dependencies (get_or rows i []) (Gone set) (are.each i h) (is_in (Gone set) (get_or rows i []) c) in

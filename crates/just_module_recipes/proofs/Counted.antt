@@ -13,7 +13,7 @@ use Rattle.just_module_contents.specs.Recipes.{name_of, names_of, recipe_at}
 use Rattle.just_module_contents.specs.Rules.{IsOutside, StandsWith, argument_count, starred}
 use Rattle.just_module_recipes.specs.Given.{Misgiven, of_count, of_star}
 use Rattle.just_module_recipes.specs.Links.{Around, BreaksLinks, HasParameters, Stands, Takes, found_by, of_far, of_near}
-use Rattle.just_module_recipes.specs.Making.{AreGiven, IsGiven, IsThere, parameters_in, parameters_of}
+use Rattle.just_module_recipes.specs.Making.{AreGivenSets, IsGiven, IsThere, parameters_in, parameters_of}
 use Rattle.just_module_recipes.specs.Rows.{IsTarget, keys_at}
 use Rattle.just_module_recipes.specs.declared.targets.Target.{Target}
 use Rattle.just_module_recipes.specs.declared.targets.Target.TheVariants.{Near, Far, Gone}
@@ -87,7 +87,7 @@ module _ (lists : Bool) (rs : List (Recipe UnresolvedDependency)) (it : Around) 
     }
 
 -- one recipe more
-pub given_more : (lists : Bool) (rs : List (Recipe UnresolvedDependency)) (it : Around) (sets : List (BTreeSet Modulepath)) (n : ℕ) → AreGiven lists rs it sets n → (keys_at sets n ≡ [] → All (IsGiven lists rs it) (recipe_at rs n).dependencies) → AreGiven lists rs it sets (n + 1)
+pub given_more : (lists : Bool) (rs : List (Recipe UnresolvedDependency)) (it : Around) (sets : List (BTreeSet Modulepath)) (n : ℕ) → AreGivenSets lists rs it sets n → (keys_at sets n ≡ [] → All (IsGiven lists rs it) (recipe_at rs n).dependencies) → AreGivenSets lists rs it sets (n + 1)
 given_more lists rs it sets n old new i h e = elim (cases_lt i n) [
   | inl l ↦ old i l e
   | inr l ↦

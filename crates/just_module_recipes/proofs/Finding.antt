@@ -15,7 +15,7 @@ use Rattle.just_justfile.specs.Walks.{end_of, recipe_by}
 use Rattle.just_module_contents.proofs.RecipePlaces.{name_at_place, one_place}
 use Rattle.just_module_contents.specs.Recipes.{name_of, named_paths, names_of, no_recipe, recipe_at}
 use Rattle.just_module_contents.specs.Rules.{DependsBy}
-use Rattle.just_module_recipes.specs.Links.{Around, Leads, Names, far, found_by, near}
+use Rattle.just_module_recipes.specs.Links.{Around, PathLeadsTo, IsNameOf, far, found_by, near}
 use Rattle.just_module_recipes.specs.Rows.{IsTarget, IsTargetAt, IsTargetOf, Lost, far_of, lost, target_by}
 use Rattle.just_module_recipes.specs.declared.targets.Target.{Target}
 use Rattle.just_module_recipes.specs.declared.targets.Target.TheVariants.{Near, Far, Gone}
@@ -75,13 +75,13 @@ module _ (rs : List (Recipe UnresolvedDependency)) (it : Around) where
     count : length (names_of rs) ≡ length rs
     count = length-map rs name_of
 
-    recipe_found : (path : Namepath) (j : ℕ) → place_in found (texts_of_path path) ≡ Some j → Names rs path j
+    recipe_found : (path : Namepath) (j : ℕ) → place_in found (texts_of_path path) ≡ Some j → IsNameOf rs path j
     recipe_found path j e =
         let s = place_in-found (names_of rs) found (texts_of_path path) j index e in
         let h : j < length rs = omega (arith, s.0, count) in
         record { there = h; named = s.1 ∙ ap (λ x. x ∷ []) (name_at_place rs j h) }
 
-    recipe_missing : (path : Namepath) → place_in found (texts_of_path path) ≡ None → (j : ℕ) → Names rs path j → ⊥
+    recipe_missing : (path : Namepath) → place_in found (texts_of_path path) ≡ None → (j : ℕ) → IsNameOf rs path j → ⊥
     recipe_missing path e j n =
         place_in-missing (names_of rs) found (texts_of_path path) index e j (omega (arith, count, n.there)) (n.named ∙ ap (λ x. x ∷ []) (sym (name_at_place rs j n.there)))
 
@@ -93,23 +93,23 @@ module _ (rs : List (Recipe UnresolvedDependency)) (it : Around) where
     pub is_target : (path : Namepath) (t : Target) → target_by (place_in found (texts_of_path path)) (found_by it path) ≡ Some t → IsTarget rs it path t
     is_target path t e = found_target path (place_in found (texts_of_path path)) t refl e
 
-    missing_target : (path : Namepath) (o : Option ℕ) → place_in found (texts_of_path path) ≡ o → target_by o (found_by it path) ≡ None → Leads rs it path → ⊥
+    missing_target : (path : Namepath) (o : Option ℕ) → place_in found (texts_of_path path) ≡ o → target_by o (found_by it path) ≡ None → PathLeadsTo rs it path → ⊥
     missing_target path (Some j) e f l = absurd (cc)
     missing_target path None e f (near j n) = recipe_missing path e j n
     missing_target path None e f (far some) = some (far_none (found_by it path) f)
 
     -- where nothing is found the path leads nowhere
-    pub is_lost : (path : Namepath) → target_by (place_in found (texts_of_path path)) (found_by it path) ≡ None → Leads rs it path → ⊥
+    pub is_lost : (path : Namepath) → target_by (place_in found (texts_of_path path)) (found_by it path) ≡ None → PathLeadsTo rs it path → ⊥
     is_lost path e = missing_target path (place_in found (texts_of_path path)) refl e
 
   -- what has a target leads somewhere
-  pub leads : (path : Namepath) (t : Target) → IsTarget rs it path t → Leads rs it path
+  pub leads : (path : Namepath) (t : Target) → IsTarget rs it path t → PathLeadsTo rs it path
   leads path (Near j) n = near j n
   leads path (Far n) e = far (λ f. let wrong : Some (resolution.Resolved n) ≡ None = sym e ∙ f in cc)
   leads path (Gone set) e = far (λ f. let wrong : Some (resolution.Disabled set) ≡ None = sym e ∙ f in cc)
 
   -- a path that names the recipe at a place leads to that
-  pub near_only : AreDifferent (names_of rs) → (path : Namepath) (t : Target) (b : ℕ) → IsTarget rs it path t → Names rs path b → t ≡ Near b
+  pub near_only : AreDifferent (names_of rs) → (path : Namepath) (t : Target) (b : ℕ) → IsTarget rs it path t → IsNameOf rs path b → t ≡ Near b
   near_only different path (Near j) b n m =
       let e = sym n.named ∙ m.named in
       let name : name_of (recipe_at rs j) ≡ name_of (recipe_at rs b) = cc in
@@ -129,7 +129,7 @@ module _ (rs : List (Recipe UnresolvedDependency)) (it : Around) where
 
   -- a dependency that leads nowhere
   pub is_unknown : (i : ℕ) (r : Recipe UnresolvedDependency) (d : UnresolvedDependency) (name : List ℕ) (unknown : Namepath) (place : Place) → i < length rs → r ≡ recipe_at rs i → Contains r.dependencies d → name ≡ name_of r → unknown ≡ d.recipe → place ≡ d.recipe.last.token
-      → (Leads rs it d.recipe → ⊥) → Lost rs it (Broken place (kind.UnknownDependency name unknown))
+      → (PathLeadsTo rs it d.recipe → ⊥) → Lost rs it (Broken place (kind.UnknownDependency name unknown))
   is_unknown i r d name unknown place h is c named copied told none =
       let by : DependsBy rs name unknown = record {
         from = i;
@@ -138,7 +138,7 @@ module _ (rs : List (Recipe UnresolvedDependency)) (it : Around) where
         depends = subst (Contains (named_paths (recipe_at rs i))) (sym copied) (subst (λ (x : Recipe UnresolvedDependency). Contains (named_paths x) d.recipe) is (path_there r d c));
       } in
       subst (λ x. Lost rs it (Broken x (kind.UnknownDependency name unknown))) (ap (λ (p : Namepath). p.last.token) copied ∙ sym told)
-      (lost by (λ l. none (subst (Leads rs it) copied l)))
+      (lost by (λ l. none (subst (PathLeadsTo rs it) copied l)))
 
 -- a member that is read
 pub read_there : (ds all : List UnresolvedDependency) (at : ℕ) (d : UnresolvedDependency) → ds ≡ all → at < length ds → d ≡ get_or ds at d → slice_get all at ≡ Some d

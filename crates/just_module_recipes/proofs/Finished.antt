@@ -14,7 +14,7 @@ use Rattle.just_module_recipes.specs.Linked.{AddsLinked, AreSettled, HasNumber, 
 use Rattle.just_errors.specs.Causes.{Keeps}
 use Rattle.just_module_recipes.specs.Links.{Around, BreaksLinks, Stands, by_recipe}
 use Rattle.just_module_recipes.specs.Making.{AreAllThere, AreExact, IsThere, link_of, links_of, made, parameters_in, parameters_of}
-use Rattle.just_module_recipes.specs.Rows.{AreRows, Bars, IsOrderOf, IsTarget, IsTargetOf, itself, keys_at}
+use Rattle.just_module_recipes.specs.Rows.{AreRecipeRows, Bars, IsOrderOf, IsTarget, IsTargetOf, itself, keys_at}
 use Rattle.just_module_recipes.specs.declared.targets.Target.{Target}
 use Rattle.just_module_recipes.specs.declared.targets.Target.TheVariants.{Near, Far, Gone}
 use Rattle.just_module_recipes.proofs.Barred.{bars_disables, disables_bars}
@@ -43,7 +43,7 @@ module _ (rs : List (Recipe UnresolvedDependency)) (it : Around) (sets : List (B
   pub stands_empty : (i : ℕ) → i < length rs → Stands rs it (name_of (recipe_at rs i)) → keys_at sets i ≡ []
   stands_empty i h s = elim (empty_or (keys_at sets i)) [ inl f ↦ f | inr (p, m) ↦ absurd (s p ((exact.exact i h p).0 m)) ]
 
-  module _ (different : AreDifferent (names_of rs)) (rows : List (List Target)) (are : AreRows rs it (length rs) rows) where
+  module _ (different : AreDifferent (names_of rs)) (rows : List (List Target)) (are : AreRecipeRows rs it (length rs) rows) where
     -- the sets are exactly what bars
     pub exact_bars : (i : ℕ) → i < length rows → (p : Modulepath) → Contains (keys_at sets i) p ↔ Bars rows i p
     exact_bars i h p =

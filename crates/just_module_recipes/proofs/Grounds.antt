@@ -4,11 +4,11 @@ use Rattle.just_parts.specs.Layers.{Layers}
 use Rattle.just_module_contents.specs.Constants.{Evaluated}
 use Rattle.just_module_contents.specs.Contents.{Contents}
 use Rattle.just_module_contents.specs.Groups.{Links, OfAliases, OfDependencies, OfRecipes}
-use Rattle.just_module_contents.specs.Rules.{Bodies}
+use Rattle.just_module_contents.specs.Rules.{BreaksBodies}
 use Rattle.just_module_recipes.specs.Broken.{BreaksRecipes, in_aliases, in_bodies, in_dependencies, in_recipes}
 
 pub recipes_kept : (layers : Layers) (it : Evaluated) (links : Links) (m : Contents)
-    → Keeps (Bodies layers.syntax it.settings m) → Keeps (links layers it OfDependencies) → Keeps (links layers it OfRecipes) → Keeps (links layers it OfAliases) → Keeps (BreaksRecipes layers it links links m)
+    → Keeps (BreaksBodies layers.syntax it.settings m) → Keeps (links layers it OfDependencies) → Keeps (links layers it OfRecipes) → Keeps (links layers it OfAliases) → Keeps (BreaksRecipes layers it links links m)
 recipes_kept layers it links m bodies dependencies recipes aliases c (in_bodies b) = bodies c b
 recipes_kept layers it links m bodies dependencies recipes aliases c (in_dependencies kept b) = dependencies c b
 recipes_kept layers it links m bodies dependencies recipes aliases c (in_recipes kept also b) = recipes c b

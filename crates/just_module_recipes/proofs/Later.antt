@@ -11,7 +11,7 @@ use Rattle.just_errors.specs.declared.compile_error.CompileErrorKind.TheVariants
 use Rattle.just_names.specs.Token.{Place}
 use Rattle.just_recipe.specs.declared.dependency.UnresolvedDependency.{UnresolvedDependency}
 use Rattle.just_recipe.specs.declared.recipe.Recipe.{Recipe}
-use Rattle.just_module_contents.specs.Defaults.{Defaults, IsLater, IsMarkedPlace, NoneMarked, duplicate_default, is_marked}
+use Rattle.just_module_contents.specs.Defaults.{BreaksDefaults, IsLater, IsMarkedPlace, NoneMarked, duplicate_default, is_marked}
 use Rattle.just_module_contents.specs.Recipes.{line_of, name_of, recipe_at, token_of}
 
 abbrev pub cmp : List ℕ → List ℕ → Ordering
@@ -45,10 +45,10 @@ later_by_no_less a b e n = record { line = omega (arith, e); name = λ _. n }
 module _ (rs : List (Recipe UnresolvedDependency)) where
   -- two that are marked
   pub told_default : (i j : ℕ) (a b : Recipe UnresolvedDependency) (place : Place) (recipe : List ℕ) → i < length rs → j < length rs → i ≢ j → is_marked (recipe_at rs i) ≡ true → is_marked (recipe_at rs j) ≡ true
-      → a ≡ recipe_at rs i → b ≡ recipe_at rs j → IsLater a b → place ≡ token_of b → recipe ≡ name_of b → Defaults rs (Broken place (kind.DuplicateDefault recipe))
+      → a ≡ recipe_at rs i → b ≡ recipe_at rs j → IsLater a b → place ≡ token_of b → recipe ≡ name_of b → BreaksDefaults rs (Broken place (kind.DuplicateDefault recipe))
   told_default i j a b place recipe h l apart first second one other later told said =
-      subst (λ p. Defaults rs (Broken p (kind.DuplicateDefault recipe))) (sym (told ∙ ap token_of other))
-      (subst (λ t. Defaults rs (Broken (token_of (recipe_at rs j)) (kind.DuplicateDefault t))) (sym (said ∙ ap name_of other))
+      subst (λ p. BreaksDefaults rs (Broken p (kind.DuplicateDefault recipe))) (sym (told ∙ ap token_of other))
+      (subst (λ t. BreaksDefaults rs (Broken (token_of (recipe_at rs j)) (kind.DuplicateDefault t))) (sym (said ∙ ap name_of other))
       (duplicate_default i j h l apart first second (subst (λ x. IsLater x (recipe_at rs j)) one (subst (IsLater a) other later))))
 
   -- one more that is not marked, and one that is
@@ -80,7 +80,7 @@ module _ (rs : List (Recipe UnresolvedDependency)) where
   only_there p i others h marked apart = false≢true (sym (others i h apart) ∙ marked)
 
   -- one at most is marked
-  pub one_marked : (o : Option ℕ) → IsMarkedPlace rs (length rs) o → Keeps (Defaults rs)
+  pub one_marked : (o : Option ℕ) → IsMarkedPlace rs (length rs) o → Keeps (BreaksDefaults rs)
   one_marked None so _ (duplicate_default i j h l apart first second later) = false≢true (sym (so i h) ∙ first)
   one_marked (Some p) so _ (duplicate_default i j h l apart first second later) =
       only_there p i so.2 h first (λ e. only_there p j so.2 l second (λ f. apart (e ∙ sym f)))

@@ -9,7 +9,7 @@ use Rattle.just_graph.specs.Building.{EachRow}
 use Rattle.just_graph.specs.Steps.{IsOrder, order_by}
 use Rattle.just_module_contents.specs.Recipes.{Depends, names_of}
 use Rattle.just_module_recipes.specs.Links.{Around}
-use Rattle.just_module_recipes.specs.Rows.{AreRows, Circular, IsOrderOf, circle, near}
+use Rattle.just_module_recipes.specs.Rows.{AreRecipeRows, Circular, IsOrderOf, circle, near}
 use Rattle.just_module_recipes.specs.declared.targets.Target.{Target}
 use Rattle.just_module_recipes.proofs.RecipeCircles.{circle_leads}
 use Rattle.just_module_recipes.proofs.Steps.{edges, row_steps}
@@ -17,7 +17,7 @@ use Rattle.just_names.specs.Index.{AreDifferent}
 use Rattle.just_recipe.specs.declared.dependency.UnresolvedDependency.{UnresolvedDependency}
 use Rattle.just_recipe.specs.declared.recipe.Recipe.{Recipe}
 
-module _ (rs : List (Recipe UnresolvedDependency)) (different : AreDifferent (names_of rs)) (it : Around) (rows : List (List Target)) (are : AreRows rs it (length rs) rows)
+module _ (rs : List (Recipe UnresolvedDependency)) (different : AreDifferent (names_of rs)) (it : Around) (rows : List (List Target)) (are : AreRecipeRows rs it (length rs) rows)
     (g : List (Vec ℕ Global)) (edges_are : EachRow (λ a row. row ≡ near (get_or rows a [])) (length rows) g)
     (roots order : List ℕ) (all_roots : (i : ℕ) → i < length rs → slice_index roots i ≡ i) (many : length roots ≡ length rs) (o : IsOrder (HasEdge g) (length g) roots order) where
   by_depends : IsOrder (Depends rs) (length g) roots order

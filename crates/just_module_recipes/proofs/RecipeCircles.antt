@@ -13,7 +13,7 @@ use Rattle.just_graph.proofs.Walks.{then_step}
 use Rattle.just_recipe.specs.declared.dependency.UnresolvedDependency.{UnresolvedDependency}
 use Rattle.just_recipe.specs.declared.recipe.Recipe.{Recipe}
 use Rattle.just_names.specs.Index.{AreDifferent}
-use Rattle.just_module_contents.specs.Recipes.{name_of, recipe_at, names_of, Depends, DependsOn}
+use Rattle.just_module_contents.specs.Recipes.{name_of, recipe_at, names_of, Depends, DependsOnRecipe}
 use Rattle.just_module_recipes.specs.Rows.{IsTokenOn, near}
 use Rattle.just_module_recipes.specs.declared.targets.Target.{Target}
 use Rattle.just_module_recipes.specs.declared.targets.Target.TheVariants.{Near}
@@ -23,16 +23,16 @@ use Rattle.just_module_contents.proofs.RecipePlaces.{one_place}
 
 module _ (rs : List (Recipe UnresolvedDependency)) (different : AreDifferent (names_of rs)) where
   -- a step between names is one between the recipes of these names
-  step_of : (i j : ℕ) (a b : List ℕ) → i < length rs → name_of (recipe_at rs i) ≡ a → j < length rs → name_of (recipe_at rs j) ≡ b → DependsOn rs a b → Depends rs i j
+  step_of : (i j : ℕ) (a b : List ℕ) → i < length rs → name_of (recipe_at rs i) ≡ a → j < length rs → name_of (recipe_at rs j) ≡ b → DependsOnRecipe rs a b → Depends rs i j
   step_of i j a b ki ei kj ej s =
       let from : s.from ≡ i = one_place rs different s.from i s.step.dependent ki (s.dependent_is ∙ sym ei) in
       let to : s.to ≡ j = one_place rs different s.to j s.step.there kj (s.name_is ∙ sym ej) in
       subst (λ x. Depends rs x j) from (subst (Depends rs s.from) to s.step)
 
-  walk_leads : (ns : List (List ℕ)) → ((k : ℕ) → k + 1 < length ns → DependsOn rs (get_or ns k []) (get_or ns (k + 1) [])) → (k i j : ℕ) → k + 1 < length ns → i < length rs → name_of (recipe_at rs i) ≡ get_or ns 0 [] → j < length rs → name_of (recipe_at rs j) ≡ get_or ns (k + 1) [] → Leads (Depends rs) i j
+  walk_leads : (ns : List (List ℕ)) → ((k : ℕ) → k + 1 < length ns → DependsOnRecipe rs (get_or ns k []) (get_or ns (k + 1) [])) → (k i j : ℕ) → k + 1 < length ns → i < length rs → name_of (recipe_at rs i) ≡ get_or ns 0 [] → j < length rs → name_of (recipe_at rs j) ≡ get_or ns (k + 1) [] → Leads (Depends rs) i j
   walk_leads ns walk zero i j h ki ei kj ej = by_step (step_of i j _ _ ki ei kj ej (walk zero h))
   walk_leads ns walk (suc k) i j h ki ei kj ej =
-      let s : DependsOn rs (get_or ns (suc k) []) (get_or ns (suc k + 1) []) = walk (suc k) h in
+      let s : DependsOnRecipe rs (get_or ns (suc k) []) (get_or ns (suc k + 1) []) = walk (suc k) h in
       let at : name_of (recipe_at rs s.from) ≡ get_or ns (k + 1) [] = s.dependent_is ∙ ap (λ m. get_or ns m []) (sym (add-one k)) in
       then_step
       (walk_leads ns walk k i s.from (omega arith) ki ei s.step.dependent at)
@@ -41,7 +41,7 @@ module _ (rs : List (Recipe UnresolvedDependency)) (different : AreDifferent (na
   -- a circle of names leads from a recipe back to it
   pub circle_leads : (recipe : List ℕ) (ns : List (List ℕ)) → IsCircleOf rs recipe ns → (i : ℕ) × (i < length rs) × Leads (Depends rs) i i
   circle_leads recipe ns c =
-      let s : DependsOn rs (get_or ns 0 []) (get_or ns (0 + 1) []) = c.walk 0 (omega (arith, c.steps)) in
+      let s : DependsOnRecipe rs (get_or ns 0 []) (get_or ns (0 + 1) []) = c.walk 0 (omega (arith, c.steps)) in
       let i : ℕ = s.from in
       let back : name_of (recipe_at rs i) ≡ get_or ns ((length ns - 2) + 1) [] = s.dependent_is ∙ (c.closed ∙ ap (λ m. get_or ns m []) (omega (arith, c.steps))) in
       (i, s.step.dependent, walk_leads ns c.walk (length ns - 2) i i (omega (arith, c.steps)) s.step.dependent s.dependent_is s.step.dependent back)

@@ -8,8 +8,8 @@ use Rattle.just_graph.specs.Graph.{HasEdge, IsGraph, targets}
 use Rattle.just_graph.specs.Building.{EachRow, targets_past}
 use Rattle.just_graph.proofs.Members.{contained, from_map, in_map, is_in}
 use Rattle.just_module_contents.specs.Recipes.{Depends, dependency_paths, name_of, names_of, recipe_at}
-use Rattle.just_module_recipes.specs.Links.{Around, Names}
-use Rattle.just_module_recipes.specs.Rows.{AreRows, IsTargetOf, near}
+use Rattle.just_module_recipes.specs.Links.{Around, IsNameOf}
+use Rattle.just_module_recipes.specs.Rows.{AreRecipeRows, IsTargetOf, near}
 use Rattle.just_module_recipes.specs.declared.targets.Target.{Target}
 use Rattle.just_module_recipes.specs.declared.targets.Target.TheVariants.{Near}
 use Rattle.just_module_recipes.proofs.Finding.{near_only}
@@ -21,16 +21,16 @@ use Rattle.just_recipe.specs.declared.dependency.UnresolvedDependency.{Unresolve
 use Rattle.just_recipe.specs.declared.recipe.Recipe.{Recipe}
 
 -- the dependency that a near target is of
-pub near_dependency : (rs : List (Recipe UnresolvedDependency)) (it : Around) (ds : List UnresolvedDependency) (row : List Target) (b : ℕ) → AllZip (IsTargetOf rs it) ds row → Contains row (Near b) → (d : UnresolvedDependency) × Contains ds d × Names rs d.recipe b
+pub near_dependency : (rs : List (Recipe UnresolvedDependency)) (it : Around) (ds : List UnresolvedDependency) (row : List Target) (b : ℕ) → AllZip (IsTargetOf rs it) ds row → Contains row (Near b) → (d : UnresolvedDependency) × Contains ds d × IsNameOf rs d.recipe b
 near_dependency rs it ds row b a c =
     let t = zip_back (IsTargetOf rs it) ds row (Near b) a (is_in (Near b) row c) in
     (t.0, contained t.0 ds t.1, t.2)
 
-module _ (rs : List (Recipe UnresolvedDependency)) (different : AreDifferent (names_of rs)) (it : Around) (rows : List (List Target)) (are : AreRows rs it (length rs) rows) where
+module _ (rs : List (Recipe UnresolvedDependency)) (different : AreDifferent (names_of rs)) (it : Around) (rows : List (List Target)) (are : AreRecipeRows rs it (length rs) rows) where
   pub row_steps : (a b : ℕ) → a < length rs → Contains (near (get_or rows a [])) b → Depends rs a b
   row_steps a b h c =
       let t = near_dependency rs it (recipe_at rs a).dependencies (get_or rows a []) b (are.each a h) (near_is (get_or rows a []) b c) in
-      let n : Names rs t.0.recipe b = t.2 in
+      let n : IsNameOf rs t.0.recipe b = t.2 in
       record {
         dependent = h;
         there = n.there;

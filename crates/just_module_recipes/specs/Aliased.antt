@@ -10,7 +10,7 @@ use Rattle.just_justfile.specs.declared.justfile.Justfile.{Justfile, out-Justfil
 use Rattle.just_justfile.specs.declared.justfile.RecipeKey.{RecipeKey}
 use Rattle.just_justfile.specs.declared.resolution.Resolution.{Resolution}
 use Rattle.just_justfile.specs.declared.resolution.Resolution.TheVariants as resolution
-use Rattle.just_module_contents.specs.Rules.{Aliases as BreaksTargets}
+use Rattle.just_module_contents.specs.Rules.{BreaksAliasTargets as BreaksTargets}
 use Rattle.just_module_recipes.specs.Linked.{name_of_disabled}
 use Rattle.just_module_recipes.specs.declared.aliases.Meaning.{Meaning}
 use Rattle.just_module_recipes.specs.declared.aliases.Meaning.TheVariants as meaning

@@ -8,7 +8,7 @@ use Rattle.just_module_recipes.specs.Completing.{Completion, StandBeside, comple
 use Rattle.just_module_contents.specs.Standing.{InStanding}
 use Rattle.just_module_recipes.specs.Links.{Around, BreaksLinks, Stands}
 use Rattle.just_module_recipes.specs.Rows.{keys_at}
-use Rattle.just_module_recipes.specs.declared.completing.Completing.{Completing}
+use Rattle.just_module_recipes.specs.declared.completion.Completing.{Completing}
 use Rattle.just_names.specs.Texts.{Text}
 use Rattle.just_names.specs.declared.number.Number.{Number}
 use Rattle.just_parts.specs.Evaluator.{Evaluator}

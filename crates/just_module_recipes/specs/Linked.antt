@@ -7,7 +7,7 @@ use Rattle.just_justfile.specs.declared.resolution.Resolution.TheVariants as res
 use Rattle.just_module_contents.specs.Recipes.{name_of, recipe_at}
 use Rattle.just_module_contents.specs.Resolved.{IsResolvedAt, number_at}
 use Rattle.just_module_recipes.specs.Completing.{Completion}
-use Rattle.just_module_recipes.specs.Links.{Around, Names, Stands, found_by}
+use Rattle.just_module_recipes.specs.Links.{Around, IsNameOf, Stands, found_by}
 use Rattle.just_names.specs.Texts.{Text}
 use Rattle.just_names.specs.Name.{text_of_name}
 use Rattle.just_names.specs.declared.name.Namepath.{Namepath}
@@ -27,7 +27,7 @@ pub record AreSettled (it : Around) : Type 0 where
 
 -- the number of the recipe that a path leads to
 pub data HasNumber (recipes : List (Recipe UnresolvedDependency)) (it : Around) (path : Namepath) (n : Number) : Type 0 where
-  of_near : (j : ℕ) → Names recipes path j → (recipe_at recipes j).number ≡ n → HasNumber recipes it path n
+  of_near : (j : ℕ) → IsNameOf recipes path j → (recipe_at recipes j).number ≡ n → HasNumber recipes it path n
   of_far : found_by it path ≡ Some (resolution.Resolved n) → HasNumber recipes it path n
 
 -- What recipes are linked to, where some stand, paths lead to numbers, and recipes are completed first.

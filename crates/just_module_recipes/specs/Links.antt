@@ -13,13 +13,13 @@ use Rattle.just_justfile.specs.declared.resolution.Resolution.{Resolution}
 use Rattle.just_justfile.specs.declared.resolution.Resolution.TheVariants as resolution
 use Rattle.just_module_contents.specs.Constants.{Evaluated, value_among}
 use Rattle.just_module_contents.specs.Contents.{Contents}
-use Rattle.just_module_contents.specs.Defaults.{Defaults}
+use Rattle.just_module_contents.specs.Defaults.{BreaksDefaults}
 use Rattle.just_module_contents.specs.Groups.{Links, OfAliases, OfDependencies, OfRecipes}
 use Rattle.just_module_contents.specs.Kept.{kept_recipes}
 use Rattle.just_module_contents.specs.Known.{known_of}
 use Rattle.just_module_contents.specs.RecipeValues.{BreaksRecipe, IsPastLimits}
-use Rattle.just_module_contents.specs.Recipes.{DependsOn, name_of, recipe_at}
-use Rattle.just_module_contents.specs.Rules.{Aliases, Dependencies, DependsBy}
+use Rattle.just_module_contents.specs.Recipes.{DependsOnRecipe, name_of, recipe_at}
+use Rattle.just_module_contents.specs.Rules.{BreaksAliasTargets, Dependencies, DependsBy}
 use Rattle.just_module_contents.specs.Standing.{AreStanding, InStanding}
 use Rattle.just_names.specs.Name.{texts_of_path}
 use Rattle.just_names.specs.Texts.{Text}
@@ -50,19 +50,19 @@ abbrev pub found_by : Around → Namepath → Option (Resolution Number)
 found_by it path = resolved_recipe it.absent [] it.modules [] path
 
 -- the path is the name of the recipe at a place
-pub record Names (recipes : List (Recipe UnresolvedDependency)) (path : Namepath) (j : ℕ) : Type 0 where
+pub record IsNameOf (recipes : List (Recipe UnresolvedDependency)) (path : Namepath) (j : ℕ) : Type 0 where
   pub there : j < length recipes
   pub named : texts_of_path path ≡ name_of (recipe_at recipes j) ∷ []
 
 -- A path leads to a recipe of the module, or through the modules.
-pub data Leads (recipes : List (Recipe UnresolvedDependency)) (it : Around) (path : Namepath) : Type 0 where
-  near : (j : ℕ) → Names recipes path j → Leads recipes it path
-  far : found_by it path ≢ None → Leads recipes it path
+pub data PathLeadsTo (recipes : List (Recipe UnresolvedDependency)) (it : Around) (path : Namepath) : Type 0 where
+  near : (j : ℕ) → IsNameOf recipes path j → PathLeadsTo recipes it path
+  far : found_by it path ≢ None → PathLeadsTo recipes it path
 
 -- A recipe, by its name, is disabled by the module without a file at a path: it depends on what that disables in another module, or on a recipe of its own module that is disabled by it. It is the least such relation.
 pub data Disables (recipes : List (Recipe UnresolvedDependency)) (it : Around) : Text → Modulepath → Type 0 where
   by_walk : {name : Text} {path : Modulepath} (d : Namepath) (set : BTreeSet Modulepath) → DependsBy recipes name d → found_by it d ≡ Some (resolution.Disabled set) → Contains set.keys path → Disables recipes it name path
-  by_recipe : {name : Text} {path : Modulepath} (other : Text) → DependsOn recipes name other → Disables recipes it other path → Disables recipes it name path
+  by_recipe : {name : Text} {path : Modulepath} (other : Text) → DependsOnRecipe recipes name other → Disables recipes it other path → Disables recipes it name path
 
 -- nothing disables it
 abbrev pub Stands : List (Recipe UnresolvedDependency) → Around → Text → Type 0
@@ -70,7 +70,7 @@ Stands recipes it name = (path : Modulepath) → Disables recipes it name path �
 
 -- the parameters of the recipe that a path leads to
 pub data HasParameters (recipes : List (Recipe UnresolvedDependency)) (it : Around) (path : Namepath) (parameters : List Parameter) : Type 0 where
-  of_near : (j : ℕ) → Names recipes path j → (recipe_at recipes j).parameters ≡ parameters → HasParameters recipes it path parameters
+  of_near : (j : ℕ) → IsNameOf recipes path j → (recipe_at recipes j).parameters ≡ parameters → HasParameters recipes it path parameters
   of_far : (n : Number) (r : Recipe Dependency) → found_by it path ≡ Some (resolution.Resolved n) → find_number it.held n.0 ≡ Some r → r.parameters ≡ parameters → HasParameters recipes it path parameters
 
 -- the recipe that a path leads to takes so many arguments at least and at most
@@ -82,7 +82,7 @@ pub record Takes (lists : Bool) (recipes : List (Recipe UnresolvedDependency)) (
 
 -- what is broken of the dependencies of a module's recipes
 abbrev pub BreaksLinks : Bool → List (Recipe UnresolvedDependency) → Around → Cause → Type 0
-BreaksLinks lists recipes it = Dependencies (Leads recipes it) (Stands recipes it) (Takes lists recipes it) lists recipes
+BreaksLinks lists recipes it = Dependencies (PathLeadsTo recipes it) (Stands recipes it) (Takes lists recipes it) lists recipes
 
 -- the value of an expression among the constants of a module
 abbrev pub value_by : Layers → Evaluated → Contents → Expression → Option (List Text)
@@ -100,12 +100,12 @@ IsPastLimitsBy layers evaluated m it = InStanding (Stands (kept_recipes m.recipe
 -- The target of an alias leads to a module, or to a recipe.
 pub data HasTarget (recipes : List (Recipe UnresolvedDependency)) (it : Around) (path : Namepath) : Type 0 where
   to_module : resolved_module it.absent it.modules path ≢ None → HasTarget recipes it path
-  to_recipe : Leads recipes it path → HasTarget recipes it path
+  to_recipe : PathLeadsTo recipes it path → HasTarget recipes it path
 
 -- The target of an alias leads to nothing, or of the recipes that stand two have the attribute `default`.
 pub data BreaksAliases (recipes : List (Recipe UnresolvedDependency)) (aliases : List (Alias Namepath)) (it : Around) : Cause → Type 0 where
-  of_targets : {c : Cause} → Aliases (HasTarget recipes it) aliases c → BreaksAliases recipes aliases it c
-  of_defaults : {c : Cause} (standing : List (Recipe UnresolvedDependency)) → AreStanding (Stands recipes it) recipes standing → Defaults standing c → BreaksAliases recipes aliases it c
+  of_targets : {c : Cause} → BreaksAliasTargets (HasTarget recipes it) aliases c → BreaksAliases recipes aliases it c
+  of_defaults : {c : Cause} (standing : List (Recipe UnresolvedDependency)) → AreStanding (Stands recipes it) recipes standing → BreaksDefaults standing c → BreaksAliases recipes aliases it c
 
 -- what is broken of the last groups
 abbrev pub links_by : Contents → Around → Links

@@ -59,8 +59,8 @@ abbrev pub AreGivenAt : Bool → List (Recipe UnresolvedDependency) → Around �
 AreGivenAt lists recipes it place = All (IsGiven lists recipes it) (recipe_at recipes place).dependencies
 
 -- and those of the first n recipes that stand
-abbrev pub AreGiven : Bool → List (Recipe UnresolvedDependency) → Around → List (BTreeSet Modulepath) → ℕ → Type 0
-AreGiven lists recipes it sets n = (i : ℕ) → i < n → keys_at sets i ≡ [] → AreGivenAt lists recipes it i
+abbrev pub AreGivenSets : Bool → List (Recipe UnresolvedDependency) → Around → List (BTreeSet Modulepath) → ℕ → Type 0
+AreGivenSets lists recipes it sets n = (i : ℕ) → i < n → keys_at sets i ≡ [] → AreGivenAt lists recipes it i
 
 module _ (lists : Bool) (recipes : List (Recipe UnresolvedDependency)) (held : List (Recipe Dependency)) where
   -- a dependency with the number of what it leads to, and its arguments in groups

@@ -9,7 +9,7 @@ use Rattle.just_justfile.specs.declared.resolution.Resolution.{Resolution}
 use Rattle.just_justfile.specs.declared.resolution.Resolution.TheVariants as resolution
 use Rattle.just_module_contents.specs.Recipes.{name_of, named_paths, recipe_at}
 use Rattle.just_module_contents.specs.Rules.{DependsBy, IsCircleOf, IsDependencyOn}
-use Rattle.just_module_recipes.specs.Links.{Around, Leads, Names, around, found_by}
+use Rattle.just_module_recipes.specs.Links.{Around, PathLeadsTo, IsNameOf, around, found_by}
 use Rattle.just_module_recipes.specs.declared.targets.Surroundings.{Surroundings}
 use Rattle.just_module_recipes.specs.declared.targets.Target.{Target}
 use Rattle.just_module_recipes.specs.declared.targets.Target.TheVariants.{Near, Far, Gone}
@@ -38,7 +38,7 @@ target_by None found = far_of found
 
 -- what a path leads to
 abbrev pub IsTarget : List (Recipe UnresolvedDependency) → Around → Namepath → Target → Type 0
-IsTarget recipes it path (Near place) = Names recipes path place
+IsTarget recipes it path (Near place) = IsNameOf recipes path place
 IsTarget recipes it path (Far number) = found_by it path ≡ Some (resolution.Resolved number)
 IsTarget recipes it path (Gone set) = found_by it path ≡ Some (resolution.Disabled set)
 
@@ -54,7 +54,7 @@ abbrev pub AreTargets : List (Recipe UnresolvedDependency) → Around → List U
 AreTargets recipes it ds row = AllZip (IsTargetOf recipes it) ds row
 
 -- the rows of the first n recipes
-pub record AreRows (recipes : List (Recipe UnresolvedDependency)) (it : Around) (n : ℕ) (rows : List (List Target)) : Type 0 where
+pub record AreRecipeRows (recipes : List (Recipe UnresolvedDependency)) (it : Around) (n : ℕ) (rows : List (List Target)) : Type 0 where
   pub count : length rows ≡ n
   pub each : (k : ℕ) → k < n → AreTargets recipes it (recipe_at recipes k).dependencies (get_or rows k [])
 
@@ -62,8 +62,8 @@ pub record AreRows (recipes : List (Recipe UnresolvedDependency)) (it : Around) 
 abbrev pub HasTargets : List (Recipe UnresolvedDependency) → ℕ → List Target → Type 0
 HasTargets recipes place row = (it : Around) × AreTargets recipes it (recipe_at recipes place).dependencies row
 
-abbrev pub HasRows : List (Recipe UnresolvedDependency) → List (List Target) → Type 0
-HasRows recipes rows = (it : Around) × AreRows recipes it (length recipes) rows
+abbrev pub HasRecipeRows : List (Recipe UnresolvedDependency) → List (List Target) → Type 0
+HasRecipeRows recipes rows = (it : Around) × AreRecipeRows recipes it (length recipes) rows
 
 -- the places among targets
 abbrev pub near : List Target → List ℕ
@@ -89,7 +89,7 @@ pub record IsTokenOn (recipes : List (Recipe UnresolvedDependency)) (dependent p
 
 -- A dependency leads to no recipe.
 pub data Lost (recipes : List (Recipe UnresolvedDependency)) (it : Around) : Cause → Type 0 where
-  lost : {recipe : List ℕ} {unknown : Namepath} → DependsBy recipes recipe unknown → (Leads recipes it unknown → ⊥) → Lost recipes it (Broken unknown.last.token (kind.UnknownDependency recipe unknown))
+  lost : {recipe : List ℕ} {unknown : Namepath} → DependsBy recipes recipe unknown → (PathLeadsTo recipes it unknown → ⊥) → Lost recipes it (Broken unknown.last.token (kind.UnknownDependency recipe unknown))
 
 -- A recipe depends on itself.
 pub data Circular (recipes : List (Recipe UnresolvedDependency)) : Cause → Type 0 where

@@ -8,8 +8,8 @@ ghost use Rattle.just_module_contents.specs.Recipes.{name_of, names_of, recipe_a
 ghost use Rattle.just_module_contents.specs.Rules.{IsOutside, StandsWith};
 ghost use Rattle.just_module_recipes.specs.Given.{Misgiven};
 ghost use Rattle.just_module_recipes.specs.Links.{BreaksLinks, Stands};
-ghost use Rattle.just_module_recipes.specs.Making.{AreAllThere, AreExact, AreGiven, AreGivenAt, IsGiven, IsThere, parameters_of};
-ghost use Rattle.just_module_recipes.specs.Rows.{AreRows, AreTargets, IsTargetOf, around_by};
+ghost use Rattle.just_module_recipes.specs.Making.{AreAllThere, AreExact, AreGivenSets, AreGivenAt, IsGiven, IsThere, parameters_of};
+ghost use Rattle.just_module_recipes.specs.Rows.{AreRecipeRows, AreTargets, IsTargetOf, around_by};
 ghost use Rattle.just_names.specs.Index.{AreDifferent};
 
 use crate::targets::{Surroundings, Target};
@@ -129,10 +129,10 @@ pub fn check_counts<'a, 's, 'src>(
     sets: &[BTreeSet<Modulepath>],
 ) -> Result<(), Error<'src>>
     requires different { AreDifferent (names_of (recipes_in kept.now)) }
-    requires rows { AreRows (recipes_in kept.now) (around_by it.now) (length kept.now.recipes.items) rows.now }
+    requires rows { AreRecipeRows (recipes_in kept.now) (around_by it.now) (length kept.now.recipes.items) rows.now }
     requires sets { AreExact (recipes_in kept.now) (around_by it.now) sets.now }
     requires there { AreAllThere (recipes_in kept.now) it.now.recipes.now rows.now sets.now }
-    ensures given { OnOk result (AreGiven settings.now.lists (recipes_in kept.now) (around_by it.now) sets.now (length kept.now.recipes.items)) }
+    ensures given { OnOk result (AreGivenSets settings.now.lists (recipes_in kept.now) (around_by it.now) sets.now (length kept.now.recipes.items)) }
     ensures named { IfErr result (Reports (BreaksLinks settings.now.lists (recipes_in kept.now) (around_by it.now))) }
 {
     for place in 0..kept.recipes.len() {

@@ -3,19 +3,19 @@
 #![tactic(auto)]
 
 pub mod aliases;
-mod chosen;
-mod completing;
+mod completion;
 mod counts;
+mod default_choice;
+mod default_mark;
 mod index;
 mod links;
-mod marked;
-mod merging;
+mod merge;
 mod recipe_order;
-mod resolving;
+mod resolution;
 mod targets;
 
 pub use aliases::resolve_aliases;
-pub use chosen::default_of;
-pub use completing::{Completing, complete};
+pub use completion::{Completing, complete};
 pub use counts::check_arguments;
+pub use default_choice::default_of;
 pub use links::{Linked, link};

@@ -17,12 +17,12 @@ ghost use Rattle.just_module_recipes.specs.Planned.{IsPlan};
 ghost use Rattle.just_module_recipes.specs.Rows.{around_by};
 ghost use Rattle.just_names.specs.Index.{AreDifferent};
 
-use crate::completing::Completing;
+use crate::completion::Completing;
 use crate::counts::check_counts;
 use crate::index::index_recipes;
-use crate::merging::merge;
+use crate::merge::merge;
 use crate::recipe_order::ordered;
-use crate::resolving::resolve;
+use crate::resolution::resolve;
 use crate::targets::{Surroundings, Target, rows};
 use just_data::{BorrowedText, Sequence};
 use just_justfile::{Disabled, Justfile};

@@ -5,7 +5,7 @@ ghost use Rattle.just_errors.specs.Causes.{Keeps, Reports};
 ghost use Rattle.just_graph.specs.Building.{EachRow};
 ghost use Rattle.just_module_contents.specs.Definitions.{recipes_in};
 ghost use Rattle.just_module_contents.specs.Recipes.{name_of, names_of, recipe_at};
-ghost use Rattle.just_module_recipes.specs.Rows.{Circular, HasRows, HasTargets, IsOrderOf, IsTokenOn, near};
+ghost use Rattle.just_module_recipes.specs.Rows.{Circular, HasRecipeRows, HasTargets, IsOrderOf, IsTokenOn, near};
 ghost use Rattle.just_module_recipes.specs.declared.targets.Target.TheVariants.{Near};
 ghost use Rattle.just_names.specs.Index.{AreDifferent};
 
@@ -114,7 +114,7 @@ pub fn ordered<'a, 'src>(
     rows: &[Sequence<Target>],
 ) -> Result<Vec<usize>, Error<'src>>
     requires different { AreDifferent (names_of (recipes_in kept.now)) }
-    requires rows { HasRows (recipes_in kept.now) rows.now }
+    requires rows { HasRecipeRows (recipes_in kept.now) rows.now }
     ensures kept { IfOk result (λ _. Keeps (Circular (recipes_in kept.now))) }
     ensures ordered { IfOk result (λ order. IsOrderOf rows.now order.items) }
     ensures named { IfErr result (Reports (Circular (recipes_in kept.now))) }

@@ -7,7 +7,7 @@ ghost use Rattle.just_justfile.specs.Walks.{AreOrdered};
 ghost use Rattle.just_module_contents.specs.Definitions.{recipes_in};
 ghost use Rattle.just_module_contents.specs.Recipes.{names_of, recipe_at};
 ghost use Rattle.just_module_recipes.specs.Links.{found_by};
-ghost use Rattle.just_module_recipes.specs.Rows.{AreRows, AreTargets, IsTargetAt, Lost, around_by, far_of, target_by};
+ghost use Rattle.just_module_recipes.specs.Rows.{AreRecipeRows, AreTargets, IsTargetAt, Lost, around_by, far_of, target_by};
 ghost use Rattle.just_names.specs.Index.{IsIndex, place_in};
 ghost use Rattle.just_names.specs.Name.{texts_of_path};
 
@@ -151,7 +151,7 @@ pub fn rows<'a, 's, 'src>(
 ) -> Result<Vec<Sequence<Target>>, Error<'src>>
     requires index { IsIndex (names_of (recipes_in kept.now)) (get bytes_eq index.now) }
     requires ordered { AreOrdered it.now.modules.now }
-    ensures rows { IfOk result (λ rows. AreRows (recipes_in kept.now) (around_by it.now) (length kept.now.recipes.items) rows.items) }
+    ensures rows { IfOk result (λ rows. AreRecipeRows (recipes_in kept.now) (around_by it.now) (length kept.now.recipes.items) rows.items) }
     ensures named { IfErr result (Reports (Lost (recipes_in kept.now) (around_by it.now))) }
 {
     let mut rows = Vec::new(alloc);

@@ -14,7 +14,7 @@ use Rattle.just_parts.specs.Bare.{bare_item}
 use Rattle.just_module_headers.specs.Analyzable.{AreAnalyzable}
 use Rattle.just_module_headers.specs.Files.{all_led, led, led_by}
 use Rattle.just_module_contents.specs.Groups.{Breaks}
-use Rattle.just_module_tree.specs.Groups.{KeepsModules, NamesModules, in_module}
+use Rattle.just_module_tree.specs.Groups.{KeepsModules, BreaksModules, in_module}
 use Rattle.just_module_tree.specs.Modules.{AreModules, Empty, Forest, HasModule, Heading, IsHeading, IsModule, Module, Tree, a_module, after_it, contents_of, first, heading_of, headings_in, in_it, no_module, of_module, of_root, path_of}
 use Rattle.just_module_tree.specs.Standing.{links_in}
 use Rattle.just_module_headers.specs.Reading.{Reading, Submodule, declared, imported, imports_of, items_in, located_ast, reading_of, submodules_of}
@@ -172,7 +172,7 @@ module _ (R S : Reading) (Q : AstKey → Type 0) (agree : (k : AstKey) → Q k �
     pub same_kept : (g : Forest) → AreModules R (root ∷ []) g → KeepsModules given g
     same_kept g b = subst (KeepsModules given) (same_forests g b) kept
 
-    pub same_unnamed : Keeps (NamesModules links_in given R root)
+    pub same_unnamed : Keeps (BreaksModules links_in given R root)
     same_unnamed named (in_module {c} {h} {m} {inside} g r modules ground breaks) =
         let up = same_heading q r in
         let t = cut R modules h [] refl in
@@ -210,7 +210,7 @@ module _ (enabled : Item → Bool) (asts : AstKey → Option Ast) (can : AreAnal
     pub agreeing_kept : (g : Forest) → AreModules R (root ∷ []) g → KeepsModules given g
     agreeing_kept = same_kept R S Holds agree (led_held false) modules_held given root held f are kept
 
-    pub agreeing_unnamed : Keeps (NamesModules links_in given R root)
+    pub agreeing_unnamed : Keeps (BreaksModules links_in given R root)
     agreeing_unnamed = same_unnamed R S Holds agree (led_held false) modules_held given root held f are kept
 
     -- the forest is theirs

@@ -13,7 +13,7 @@ use Rattle.just_module_tree.specs.Modules.{Heading, IsHeading, heading_of, of_mo
 use Rattle.just_module_headers.specs.Reading.{Reading, reading_of}
 use Rattle.just_module_headers.specs.declared.files.Files.{Files}
 use Rattle.just_module_headers.specs.declared.files.Rows.{Rows}
-use Rattle.just_module_headers.specs.declared.joined.Joined.{Joined}
+use Rattle.just_module_headers.specs.declared.join.Joined.{Joined}
 use Rattle.just_module_tree.proofs.ModulePaths.{entered, subs_at}
 use Rattle.just_module_tree.proofs.ModulePlaces.{is_module}
 

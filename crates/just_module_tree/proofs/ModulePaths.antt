@@ -24,7 +24,7 @@ use Rattle.just_module_headers.specs.Reading.{Reading, Submodule, declared, impo
 use Rattle.just_module_contents.specs.Resolved.{path_to}
 use Rattle.just_module_headers.specs.declared.files.Files.{Files}
 use Rattle.just_module_headers.specs.declared.files.Rows.{Rows}
-use Rattle.just_module_headers.specs.declared.joined.Joined.{Joined}
+use Rattle.just_module_headers.specs.declared.join.Joined.{Joined}
 use Rattle.just_module_headers.proofs.FilePlaces.{import_inside, imports_here}
 use Rattle.just_module_headers.proofs.Joining.{in_row}
 use Rattle.just_module_tree.proofs.ModulePlaces.{agree, along, inner_keys}

@@ -22,7 +22,7 @@ use Rattle.just_module_tree.specs.Modules.{AreModules, Forest, Empty, Tree, HasM
 use Rattle.just_module_headers.specs.Reading.{Reading, Submodule, imports_of, located_ast, reading_of, submodules_of}
 use Rattle.just_module_headers.specs.declared.files.Files.{Files}
 use Rattle.just_module_headers.specs.declared.files.Rows.{Rows}
-use Rattle.just_module_headers.specs.declared.joined.Joined.{Joined}
+use Rattle.just_module_headers.specs.declared.join.Joined.{Joined}
 use Rattle.just_module_headers.proofs.FilePlaces.{import_inside, imports_here, modules_here, one_place, says}
 use Rattle.just_module_headers.proofs.Joining.{in_row}
 

@@ -32,7 +32,7 @@ use Rattle.just_module_contents.specs.Recipes.{recipes_of, recipes_said}
 use Rattle.just_module_headers.specs.Reading.{Reading, Submodule, declared, enabled_items, items_in, located_ast, reading_of, submodules_of}
 use Rattle.just_module_headers.specs.declared.files.Files.{Files}
 use Rattle.just_module_headers.specs.declared.files.Rows.{Rows}
-use Rattle.just_module_headers.specs.declared.joined.Joined.{Joined}
+use Rattle.just_module_headers.specs.declared.join.Joined.{Joined}
 use Rattle.just_module_headers.proofs.Alike.{AreAlike, outline_of, outlines_of}
 use Rattle.just_module_headers.proofs.BareOutlines.{outline_located}
 use Rattle.just_module_headers.proofs.FilePlaces.{are_graphs, says}

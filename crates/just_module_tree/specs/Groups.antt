@@ -21,6 +21,6 @@ pub record HasGround (given : Given) (g : Group) (m : Module) (inside : Forest) 
   pub below : rank g ≢ 0 → KeepsModules given inside
 
 -- What is broken in a module that is reached from the root's, or what else is told there of its last groups.
-pub data NamesModules (told : Module → Forest → Links) (given : Given) (R : Reading) (root : Heading) : Cause → Type 0 where
+pub data BreaksModules (told : Module → Forest → Links) (given : Given) (R : Reading) (root : Heading) : Cause → Type 0 where
   in_module : {c : Cause} {h : Heading} {m : Module} {inside : Forest} (g : Group) → IsHeading R root h → AreModules R (h ∷ []) (Tree m inside Empty)
-      → HasGround given g m inside → Breaks (layers_at given (path_of m)) (told m inside) g (contents_of m) c → NamesModules told given R root c
+      → HasGround given g m inside → Breaks (layers_at given (path_of m)) (told m inside) g (contents_of m) c → BreaksModules told given R root c

@@ -4,7 +4,7 @@ use Rattle.std.specs.List.{Contains, list_any}
 use Rattle.std.specs.Str.{bytes_eq}
 use Rattle.just_ast_expressions.specs.declared.expression.Expression.{Expression}
 use Rattle.just_errors.specs.Causes.{Cause}
-use Rattle.just_module_contents.specs.Defaults.{Defaults}
+use Rattle.just_module_contents.specs.Defaults.{BreaksDefaults}
 use Rattle.just_module_contents.specs.Constants.{Evaluated, value_among}
 use Rattle.just_module_contents.specs.Groups.{Links, OfAliases, OfDependencies, OfRecipes}
 use Rattle.just_module_contents.specs.Kept.{kept_recipes}
@@ -12,7 +12,7 @@ use Rattle.just_module_contents.specs.Known.{known_of}
 use Rattle.just_module_contents.specs.Notes.{absent_by}
 use Rattle.just_module_contents.specs.RecipeValues.{BreaksRecipe, IsPastLimits}
 use Rattle.just_module_contents.specs.Recipes.{least_of, most_of, name_of, names_of, recipe_at}
-use Rattle.just_module_contents.specs.Rules.{Aliases, Dependencies, DependsBy}
+use Rattle.just_module_contents.specs.Rules.{BreaksAliasTargets, Dependencies, DependsBy}
 use Rattle.just_module_contents.specs.Standing.{AreStanding, InStanding}
 use Rattle.just_module_tree.specs.Modules.{Empty, Forest, Module, Tree, contents_of, items_of}
 use Rattle.just_names.specs.Name.{text_if_named, text_of_name, texts_of_path}
@@ -39,27 +39,27 @@ find_inner name Empty = None
 find_inner name (Tree m inside after) = if bytes_eq (name_in m) name then Some (m, inside) else find_inner name after
 
 -- Where names lead from a module: into one, with those in it, to one without a file, told by the names up to it, or to no module.
-pub data Place : Type 0 where
-  In : Module → Forest → Place
-  Missing : List Text → Place
-  Nowhere : Place
+pub data WalkEnd : Type 0 where
+  In : Module → Forest → WalkEnd
+  Missing : List Text → WalkEnd
+  Nowhere : WalkEnd
 
 -- where names lead of which the first leads into a module, by where the others lead from there
-abbrev pub beyond : Text → Place → Place
+abbrev pub beyond : Text → WalkEnd → WalkEnd
 beyond name (In m inside) = In m inside
 beyond name (Missing names) = Missing (name ∷ names)
 beyond name Nowhere = Nowhere
 
 -- where names lead: a module that is there goes before one of its name without a file
-abbrev pub follow : List Text → Module → Forest → Place
+abbrev pub follow : List Text → Module → Forest → WalkEnd
 follow [] m inside = In m inside
-follow (name ∷ names) m inside = elim (find_inner name inside) as (λ _. Place) [
+follow (name ∷ names) m inside = elim (find_inner name inside) as (λ _. WalkEnd) [
   | Some n ↦ beyond name (follow names n.0 n.1)
   | None ↦ if list_any (λ absent. bytes_eq absent name) (absent_in m) then Missing (name ∷ []) else Nowhere
 ]
 
 -- where the names of a path lead, but for its last
-abbrev pub leads : Module → Forest → Namepath → Place
+abbrev pub leads : Module → Forest → Namepath → WalkEnd
 leads m inside path = follow (map text_of_name path.front) m inside
 
 -- A recipe of a module, by its name, is disabled by the module without a file at a path: a dependency of it leads through that, or to a recipe that is disabled by it. It is the least such relation; a path is told from the module whose dependency leads through it.
@@ -70,11 +70,11 @@ pub data DisabledBy : Module → Forest → Text → Modulepath → Type 0 where
       → DisabledBy n below (text_of_name d.last) path → DisabledBy m inside name path
 
 -- nothing disables it
-abbrev pub StandsIn : Module → Forest → Text → Type 0
-StandsIn m inside name = (path : Modulepath) → DisabledBy m inside name path → ⊥
+abbrev pub StandsInTree : Module → Forest → Text → Type 0
+StandsInTree m inside name = (path : Modulepath) → DisabledBy m inside name path → ⊥
 
 -- a path leads to a recipe, or through a module without a file
-abbrev pub EndsWell : Place → Text → Type 0
+abbrev pub EndsWell : WalkEnd → Text → Type 0
 EndsWell (In n below) name = Contains (names_of (kept_in n)) name
 EndsWell (Missing names) name = Unit {0}
 EndsWell Nowhere name = ⊥
@@ -95,38 +95,38 @@ pub record TakesIn (lists : Bool) (m : Module) (inside : Forest) (path : Namepat
 
 -- what is broken of the dependencies of a module's kept recipes
 abbrev pub BreaksDependencies : Bool → Module → Forest → Cause → Type 0
-BreaksDependencies lists m inside = Dependencies (LeadsSomewhere m inside) (StandsIn m inside) (TakesIn lists m inside) lists (kept_in m)
+BreaksDependencies lists m inside = Dependencies (LeadsSomewhere m inside) (StandsInTree m inside) (TakesIn lists m inside) lists (kept_in m)
 
 -- the value of an expression among the constants of a module
 abbrev pub value_in : Layers → Evaluated → Module → Expression → Option (List Text)
 value_in layers it m = value_among layers.evaluator (contents_of m) it.constants
 
 -- a rule of one recipe is broken by one of a module's kept recipes that stands
-abbrev pub BreaksStanding : Layers → Evaluated → Module → Forest → Cause → Type 0
-BreaksStanding layers it m inside = InStanding (StandsIn m inside) (BreaksRecipe (value_in layers it m) layers.syntax (known_of layers.syntax (contents_of m)) it.settings) (kept_in m)
+abbrev pub BreaksStandingInTree : Layers → Evaluated → Module → Forest → Cause → Type 0
+BreaksStandingInTree layers it m inside = InStanding (StandsInTree m inside) (BreaksRecipe (value_in layers it m) layers.syntax (known_of layers.syntax (contents_of m)) it.settings) (kept_in m)
 
 -- a pattern of one of these is past the size or the nesting that regular expressions may have
 abbrev pub IsPastLimitsIn : Layers → Evaluated → Module → Forest → Cause → Type 0
-IsPastLimitsIn layers it m inside = InStanding (StandsIn m inside) (IsPastLimits (value_in layers it m)) (kept_in m)
+IsPastLimitsIn layers it m inside = InStanding (StandsInTree m inside) (IsPastLimits (value_in layers it m)) (kept_in m)
 
 -- The target of an alias leads to a module, to one without a file, or to a kept recipe.
-pub data HasTarget (m : Module) (inside : Forest) (path : Namepath) : Type 0 where
-  to_module : follow (texts_of_path path) m inside ≢ Nowhere → HasTarget m inside path
-  to_recipe : LeadsSomewhere m inside path → HasTarget m inside path
+pub data HasTargetInTree (m : Module) (inside : Forest) (path : Namepath) : Type 0 where
+  to_module : follow (texts_of_path path) m inside ≢ Nowhere → HasTargetInTree m inside path
+  to_recipe : LeadsSomewhere m inside path → HasTargetInTree m inside path
 
 -- The target of an alias leads to nothing, or of the recipes that stand two have the attribute `default`.
-pub data BreaksAliases (m : Module) (inside : Forest) : Cause → Type 0 where
-  of_targets : {c : Cause} → Aliases (HasTarget m inside) (contents_of m).aliases c → BreaksAliases m inside c
-  of_defaults : {c : Cause} (standing : List (Recipe UnresolvedDependency)) → AreStanding (StandsIn m inside) (kept_in m) standing → Defaults standing c → BreaksAliases m inside c
+pub data BreaksAliasesInTree (m : Module) (inside : Forest) : Cause → Type 0 where
+  of_targets : {c : Cause} → BreaksAliasTargets (HasTargetInTree m inside) (contents_of m).aliases c → BreaksAliasesInTree m inside c
+  of_defaults : {c : Cause} (standing : List (Recipe UnresolvedDependency)) → AreStanding (StandsInTree m inside) (kept_in m) standing → BreaksDefaults standing c → BreaksAliasesInTree m inside c
 
 -- what is broken of the last groups in a module with those in it
 abbrev pub links_in : Module → Forest → Links
 links_in m inside layers it OfDependencies = BreaksDependencies it.settings.lists m inside
-links_in m inside layers it OfRecipes = BreaksStanding layers it m inside
-links_in m inside layers it OfAliases = BreaksAliases m inside
+links_in m inside layers it OfRecipes = BreaksStandingInTree layers it m inside
+links_in m inside layers it OfAliases = BreaksAliasesInTree m inside
 links_in m inside layers it _ = λ c. ⊥
 
 -- what an error may tell of them: what is broken, or a pattern that is past those limits
 abbrev pub told_in : Module → Forest → Links
-told_in m inside layers it OfRecipes = λ c. BreaksStanding layers it m inside c ⊎ IsPastLimitsIn layers it m inside c
+told_in m inside layers it OfRecipes = λ c. BreaksStandingInTree layers it m inside c ⊎ IsPastLimitsIn layers it m inside c
 told_in m inside layers it g = links_in m inside layers it g

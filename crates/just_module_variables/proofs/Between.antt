@@ -20,7 +20,7 @@ use Rattle.just_table.specs.Entries.{find}
 use Rattle.just_parts.specs.Known.{Known}
 use Rattle.just_parts.specs.Reading.{Reads, ReadsOn, at_once, through}
 use Rattle.just_parts.specs.Scopes.{Scoped, body_scoped, scoped, value_scoped}
-use Rattle.just_module_variables.specs.Steps.{AreRowsOf, functions_of, nodes_of, rows_of, solid_of, variables_of}
+use Rattle.just_module_variables.specs.Steps.{AreNodeRows, functions_of, nodes_of, rows_of, solid_of, variables_of}
 use Rattle.just_module_variables.proofs.Edges.{ToFunction, ToVariable, has_function, has_variable, node_at, node_of_function, node_of_variable, nodes_long, passing_function, row_of, solid_inside, solid_variable, targets_are}
 use Rattle.just_name_resolution.proofs.Placed.{entry_at, entry_found, found_at, found_there, key_at, the_value}
 
@@ -45,7 +45,7 @@ module _ (m : Known) (variables : AreDifferent (variables_of m)) (functions : Ar
       let k = key_at m.assignments a e.0 e.1 in
       (e.0.1, ap (λ n. find n m.assignments) k.1 ∙ entry_at m.assignments variables a e.0.0 e.0.1 e.1, node_of_variable m a e.0.0 e.0.1 e.1)
 
-  module _ (g : List (Vec ℕ Global)) (rows : AreRowsOf m (rows_of g)) where
+  module _ (g : List (Vec ℕ Global)) (rows : AreNodeRows m (rows_of g)) where
     inside : (name : Text) (b : ℕ) → rows.variable name ≡ Some b → (b < length m.assignments) × (name_at (variables_of m) b ≡ name)
     inside name b e =
         let f = found_there (variables_of m) rows.variable rows.variables name b e in

@@ -20,11 +20,11 @@ use Rattle.just_graph_order.specs.Through as graph
 use Rattle.just_parts.specs.Known.{Known}
 use Rattle.just_parts.specs.Misnaming.{Expressions, IsCircleOf, circular_variables}
 use Rattle.just_parts.specs.Reading.{ReadsOn}
-use Rattle.just_module_variables.specs.Steps.{AreRowsOf, IsCircleAt, functions_of, names_of, rows_of, solid_of, variables_of}
+use Rattle.just_module_variables.specs.Steps.{AreNodeRows, IsCircleAt, functions_of, names_of, rows_of, solid_of, variables_of}
 use Rattle.just_module_variables.proofs.Between.{from_reads, place_of, reads_variable, to_reads}
 use Rattle.just_module_variables.proofs.Edges.{solid_inside}
 
-module _ (m : Known) (variables : AreDifferent (variables_of m)) (functions : AreDifferent (functions_of m)) (g : List (Vec ℕ Global)) (rows : AreRowsOf m (rows_of g)) where
+module _ (m : Known) (variables : AreDifferent (variables_of m)) (functions : AreDifferent (functions_of m)) (g : List (Vec ℕ Global)) (rows : AreNodeRows m (rows_of g)) where
   -- what reads is a variable
   reader_there : (from to : Text) → ReadsOn m from to → (a : ℕ) × (a < length m.assignments) × (name_at (variables_of m) a ≡ from)
   reader_there from to r = place_of m variables functions from (ap is_some r.is)

@@ -9,7 +9,7 @@ use Rattle.just_names.specs.declared.number.Number.{Number}
 use Rattle.just_errors.specs.Causes.{Keeps, Reports}
 use Rattle.just_errors.specs.declared.error.Error.{Error}
 use Rattle.just_errors.proofs.Lifts.{reports_by}
-use Rattle.just_module_contents.specs.Constants.{AreConstants, AsksConstants, Constants, IsEvaluated, constant_expressions, recipe_expressions, settings_among, settings_expressions, sets_lists}
+use Rattle.just_module_contents.specs.Constants.{AreConstants, AsksConstants, BreaksConstants, IsEvaluated, constant_expressions, recipe_expressions, settings_among, settings_expressions, sets_lists}
 use Rattle.just_module_contents.specs.Contents.{Contents}
 use Rattle.just_module_contents.specs.Kept.{kept_variables}
 use Rattle.just_module_contents.specs.Known.{known_of, variables_under}
@@ -43,7 +43,7 @@ module _ (layers : Layers) (m : Contents) (vs : List (Text × Assignment)) (fs :
       ∙ overrides_changed layers.overrides (numbered_assignment (known_with_numbers layers.syntax m)) (λ a. refl) (variables_under m.variables)
 
   -- names in settings
-  pub setting_told : (es : List Expression) → es ≡ settings_expressions m → (e : Expression) → Contains es e → (told : Error) → Reports (Misnames tables none_hidden e) told → Reports (Constants layers m) told
+  pub setting_told : (es : List Expression) → es ≡ settings_expressions m → (e : Expression) → Contains es e → (told : Error) → Reports (Misnames tables none_hidden e) told → Reports (BreaksConstants layers m) told
   setting_told es are e there told h =
       names_told layers m e (subst (λ xs. Contains xs e) are there) told
       (reports_by (Misnames tables none_hidden e) (Misnames (known_of layers.syntax m) none_hidden e) (λ c b. misnames_known layers.syntax m vs fs order is b) told h)
@@ -77,7 +77,7 @@ module _ (layers : Layers) (m : Contents) (vs : List (Text × Assignment)) (fs :
     closed = tables_closed layers.syntax m vs fs order is layers.overrides (constant_expressions m) (sets_lists m.sets) (get same_number overrides) set says apart needed_constants
 
     -- where the constants have no value a fault is told
-    pub no_constants : (e : Error) → FaultsAt (layers.evaluator.constants (wanted_by vs fs (get same_number overrides) set lists)) e → Reports (Constants layers m) e
+    pub no_constants : (e : Error) → FaultsAt (layers.evaluator.constants (wanted_by vs fs (get same_number overrides) set lists)) e → Reports (BreaksConstants layers m) e
     no_constants e h = constants_told layers m (wanted_by vs fs (get same_number overrides) set lists) asks e h
 
     module _ (scope : Scope) (answered : layers.evaluator.constants (wanted_by vs fs (get same_number overrides) set lists) ≡ Some (values_of scope))
@@ -102,12 +102,12 @@ module _ (layers : Layers) (m : Contents) (vs : List (Text × Assignment)) (fs :
           let functions = tables_functions layers.syntax m vs fs order is in
           λ i. layers.evaluator.settings (sym functions i) (values_of scope) (map bare_set (sym set_are i))
 
-      pub no_settings : (e : Error) → FaultsAt (layers.evaluator.settings (functions_by_name fs) (values_of scope) (map bare_set sets)) e → Reports (Constants layers m) e
+      pub no_settings : (e : Error) → FaultsAt (layers.evaluator.settings (functions_by_name fs) (values_of scope) (map bare_set sets)) e → Reports (BreaksConstants layers m) e
       no_settings e h = settings_told layers m (values_of scope) are_constants e (subst (λ (o : Option Settings). FaultsAt o e) (sym settings_same) h)
 
       pub evaluated : (settings : Settings) → layers.evaluator.settings (functions_by_name fs) (values_of scope) (map bare_set sets) ≡ Some settings → IsEvaluated layers m (record { constants = values_of scope; settings = settings })
       evaluated settings h = record { constants = are_constants; settings = settings_same ∙ h }
 
       pub kept : (settings : Settings) → layers.evaluator.settings (functions_by_name fs) (values_of scope) (map bare_set sets) ≡ Some settings
-          → (ss : List Expression) → ss ≡ settings_expressions m → ((e : Expression) → Contains ss e → Keeps (Misnames tables none_hidden e)) → Keeps (Constants layers m)
+          → (ss : List Expression) → ss ≡ settings_expressions m → ((e : Expression) → Contains ss e → Keeps (Misnames tables none_hidden e)) → Keeps (BreaksConstants layers m)
       kept settings h ss sets names = constants_kept layers m (record { constants = values_of scope; settings = settings }) (evaluated settings h) (settings_named ss sets names)

@@ -9,7 +9,7 @@ use Rattle.just_errors.specs.Causes.{Broken, Cause, Keeps, Reports}
 use Rattle.just_errors.specs.declared.error.Error.{Error}
 use Rattle.just_errors.specs.declared.error.Error.TheVariants as error
 use Rattle.just_errors.proofs.Lifts.{reports_by}
-use Rattle.just_module_contents.specs.Constants.{Docs, doc_fault, in_doc, text_of_value, value_among}
+use Rattle.just_module_contents.specs.Constants.{BreaksDocs, doc_fault, in_doc, text_of_value, value_among}
 use Rattle.just_module_contents.specs.Contents.{Contents}
 use Rattle.just_names.specs.Texts.{Text}
 use Rattle.just_name_resolution.proofs.Looking.{not_in_none}
@@ -79,7 +79,7 @@ module _ (answers : SyntaxAnswers) (evaluator : Evaluator) (m : Contents) (varia
   documented_among labels made all = subst (λ (v : Expression → Option (List Text)). AreDocumented v labels made) value_same all
 
   pub sound_docs : (labels : List Label) → m.docs ≡ doc_expressions labels → ((label : Label) → Contains labels label → IsSoundLabel (known_by answers variables) (value_by evaluator variables values) label)
-      → Keeps (Docs answers evaluator m values)
+      → Keeps (BreaksDocs answers evaluator m values)
   sound_docs labels said sound = docs_kept answers evaluator m values (λ e there.
       let found = doc_of_label labels e (subst (λ (es : List Expression). Contains es e) said there) in
       let label = sound found.0 found.1 in
@@ -91,7 +91,7 @@ module _ (answers : SyntaxAnswers) (evaluator : Evaluator) (m : Contents) (varia
       })
 
   -- what is at fault with a label
-  fault_of_label : (e : Expression) (c : Cause) (o : Option Expression) → o ≡ Some e → Contains m.docs e → DocFault (known_by answers variables) (value_by evaluator variables values) o c → Docs answers evaluator m values c
+  fault_of_label : (e : Expression) (c : Cause) (o : Option Expression) → o ≡ Some e → Contains m.docs e → DocFault (known_by answers variables) (value_by evaluator variables values) o c → BreaksDocs answers evaluator m values c
   fault_of_label e c o said there (misnamed {e = d} is_d b) =
       let same : d ≡ e = same_Some d e (sym is_d ∙ said) in
       in_doc (subst (Contains m.docs) (sym same) there) (misnames_known answers m variables.assignments variables.functions variables.evaluation_order is b)
@@ -100,16 +100,16 @@ module _ (answers : SyntaxAnswers) (evaluator : Evaluator) (m : Contents) (varia
       doc_fault (subst (Contains m.docs) (sym same) there) (ap (λ (v : Expression → Option (List Text)). v d) (sym value_same) ∙ none)
 
   fault_said : (labels : List Label) (label : Label) → m.docs ≡ doc_expressions labels → Contains labels label → (o : Option Expression) → label.doc_expression ≡ o → (c : Cause)
-      → DocFault (known_by answers variables) (value_by evaluator variables values) o c → Docs answers evaluator m values c
+      → DocFault (known_by answers variables) (value_by evaluator variables values) o c → BreaksDocs answers evaluator m values c
   fault_said labels label said there None is_o c (misnamed is_d b) = cc
   fault_said labels label said there None is_o c (no_value is_d none) = cc
   fault_said labels label said there (Some e) is_o c fault =
       fault_of_label e c (Some e) refl (subst (λ (es : List Expression). Contains es e) (sym said) (doc_there labels label e there is_o)) fault
 
   pub label_told : (labels : List Label) (label : Label) → m.docs ≡ doc_expressions labels → Contains labels label → (told : Error)
-      → Reports (DocFault (known_by answers variables) (value_by evaluator variables values) label.doc_expression) told → Reports (Docs answers evaluator m values) told
+      → Reports (DocFault (known_by answers variables) (value_by evaluator variables values) label.doc_expression) told → Reports (BreaksDocs answers evaluator m values) told
   label_told labels label said there told h =
-      reports_by (DocFault (known_by answers variables) (value_by evaluator variables values) label.doc_expression) (Docs answers evaluator m values)
+      reports_by (DocFault (known_by answers variables) (value_by evaluator variables values) label.doc_expression) (BreaksDocs answers evaluator m values)
       (fault_said labels label said there label.doc_expression refl) told h
 
 -- the doc of one label, as its code has it

@@ -19,7 +19,7 @@ use Rattle.just_ast_references.specs.Body.{Calls, Mention, Names}
 use Rattle.just_parts.specs.Known.{Known}
 use Rattle.just_parts.specs.Reading.{mentions}
 use Rattle.just_parts.specs.Scopes.{Scoped, body_scoped, value_scoped}
-use Rattle.just_module_variables.specs.Steps.{AreRowsOf, nodes_of, rows_of, solid_of, target_of, targets_of}
+use Rattle.just_module_variables.specs.Steps.{AreNodeRows, nodes_of, rows_of, solid_of, target_of, targets_of}
 use Rattle.just_name_resolution.proofs.Placed.{at_left, at_right}
 
 -- it mentions a variable that is found at the place
@@ -131,7 +131,7 @@ module _ (m : Known) where
     | inr l ↦ absurd (false≢true (sym (passing_function a l) ∙ e))
   ]
 
-  module _ (g : List (Vec ℕ Global)) (rows : AreRowsOf m (rows_of g)) where
+  module _ (g : List (Vec ℕ Global)) (rows : AreNodeRows m (rows_of g)) where
     pub row_of : (a : ℕ) (s : Scoped) → slice_get (nodes_of m) a ≡ Some s → targets g a ≡ targets_of rows.variable rows.function (length m.assignments) s
     row_of a s e =
         row_at g a (targets_of rows.variable rows.function (length m.assignments) s)

@@ -17,7 +17,7 @@ use Rattle.just_graph_order.specs.Through.{IsOrderThrough}
 use Rattle.just_parts.specs.Known.{Known}
 use Rattle.just_parts.specs.Misnaming.{Expressions, HaveFunctionNames, HaveNames, circular_variables, in_body, in_value}
 use Rattle.just_parts.specs.Reading.{IsEvaluationOrder, ReadsOn}
-use Rattle.just_module_variables.specs.Steps.{AreRowsOf, IsOrderAt, functions_of, rows_of, solid_of, variables_of}
+use Rattle.just_module_variables.specs.Steps.{AreNodeRows, IsOrderAt, functions_of, rows_of, solid_of, variables_of}
 use Rattle.just_module_variables.proofs.Between.{place_of, reads_variable, to_reads, variable_at}
 use Rattle.just_module_variables.proofs.Circles.{circle_leads}
 use Rattle.just_module_variables.proofs.Edges.{solid_inside, solid_variable}
@@ -48,7 +48,7 @@ pub order_in : (m : Known) (g edges : List (Vec ℕ Global)) (solid : List Bool)
 order_in m g edges solid roots order eg es o =
     subst (λ s. IsOrderThrough (HasEdge g) s roots order) es (subst (λ x. IsOrderThrough (HasEdge x) solid roots order) eg o)
 
-module _ (m : Known) (variables : AreDifferent (variables_of m)) (functions : AreDifferent (functions_of m)) (g : List (Vec ℕ Global)) (rows : AreRowsOf m (rows_of g)) (roots order : List ℕ) (all_roots : (a : ℕ) → a < length m.assignments → Contains roots a) (o : IsOrderThrough (HasEdge g) (solid_of m) roots order) where
+module _ (m : Known) (variables : AreDifferent (variables_of m)) (functions : AreDifferent (functions_of m)) (g : List (Vec ℕ Global)) (rows : AreNodeRows m (rows_of g)) (roots order : List ℕ) (all_roots : (a : ℕ) → a < length m.assignments → Contains roots a) (o : IsOrderThrough (HasEdge g) (solid_of m) roots order) where
   listed : (a : ℕ) → a < length m.assignments → Contains order a
   listed a h = (o.lists a).1 (solid_variable m a h, from_start (all_roots a h))
 

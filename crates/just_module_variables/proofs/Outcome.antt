@@ -10,7 +10,7 @@ use Rattle.just_ast_definitions.specs.declared.function_definition.FunctionDefin
 use Rattle.just_ast_definitions.specs.declared.function_definition.FunctionParameter.{FunctionParameter}
 use Rattle.just_table.specs.Entries.{IsKeyed, IsSorted}
 use Rattle.just_module_variables.specs.Numbered.{AreBindings, assignment_by, assignments_by, function_by, functions_by, name_of_assignment, name_of_function, number_by, number_under}
-use Rattle.just_module_variables.specs.Resolved.{IsResolved}
+use Rattle.just_module_variables.specs.Resolved.{AreVariablesResolved}
 use Rattle.just_module_variables.proofs.Order.{name_of, order_named}
 use Rattle.just_module_variables.proofs.Tables.{put_map}
 use Rattle.just_parts.specs.Known.{Known}
@@ -23,7 +23,7 @@ module _ (m : Known) (sorted : IsSorted m.assignments) (sorted_functions : IsSor
   pub resolved : (names order : List Name) (places : List ℕ) (assignments : List (Text × Assignment)) (functions : List (Text × FunctionDefinition))
       → names ≡ map name_of (values_of m.assignments) → map Some order ≡ map (slice_get names) places → IsEvaluationOrder m (names_of m places)
       → assignments ≡ assignments_by (number_by numbers m.constant) (values_of m.assignments) → functions ≡ functions_by (number_by numbers m.constant) (values_of m.functions)
-      → IsKeyed name_of_assignment m.assignments → IsKeyed name_of_function m.functions → IsResolved m numbers order assignments functions
+      → IsKeyed name_of_assignment m.assignments → IsKeyed name_of_function m.functions → AreVariablesResolved m numbers order assignments functions
   resolved names order places assignments functions named at in_order variables bodies keyed keyed_functions =
       let number : List FunctionParameter → Text → Option Number = number_by numbers m.constant in
       let same : number ≡ number_under m = λ i. number_by (λ name. are keyed name i) m.constant in

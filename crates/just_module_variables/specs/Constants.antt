@@ -24,7 +24,7 @@ abbrev pub CoversSets : Variables → Values → List Set → Type 0
 CoversSets variables values sets = All (Covers (sources variables.assignments variables.functions) values) (flat_map set_expressions sets)
 
 -- An error names what is at fault with a name in one of some expressions.
-pub record NamesFaultIn (m : Known) (es : List Expression) (error : Error) : Type 0 where
+pub record TellsFaultIn (m : Known) (es : List Expression) (error : Error) : Type 0 where
   pub e : Expression
   pub there : Contains es e
   pub told : Reports (Misnames m none_hidden e) error

@@ -10,7 +10,7 @@ use Rattle.just_ast_definitions.specs.declared.assignment.Assignment.{Assignment
 use Rattle.just_ast_definitions.specs.declared.function_definition.FunctionDefinition.{FunctionDefinition}
 use Rattle.just_ast_definitions.specs.declared.function_definition.FunctionParameter.{FunctionParameter}
 use Rattle.just_module_variables.specs.Numbered.{assignments_by, functions_by, number_by}
-use Rattle.just_module_variables.specs.declared.resolving.Numbering.{Numbering}
+use Rattle.just_module_variables.specs.declared.resolution.Numbering.{Numbering}
 
 abbrev pub number_here : {A : Type 0} → SyntaxAnswers → Numbering A → List FunctionParameter → Text → Option Number
 number_here answers resolver = number_by (get bytes_eq resolver.bindings) answers.constant

@@ -23,7 +23,7 @@ pub record AreInOrder (m : Known) (order : List Name) : Type 0 where
   pub assigned : (name : Name) → Contains order name → (a : Assignment) × (find (text_of_name name) m.assignments ≡ Some a) × (a.name ≡ name)
 
 -- The numbers of the variables, their names in an evaluation order, and both tables with the numbers of what their names mean.
-pub record IsResolved (m : Known) (numbers : Text → Option Number) (order : List Name) (assignments : List (Text × Assignment)) (functions : List (Text × FunctionDefinition)) : Type 0 where
+pub record AreVariablesResolved (m : Known) (numbers : Text → Option Number) (order : List Name) (assignments : List (Text × Assignment)) (functions : List (Text × FunctionDefinition)) : Type 0 where
   pub bindings : (name : Text) → numbers name ≡ number_of m name
   pub evaluation_order : AreInOrder m order
   pub assignments_are : assignments ≡ numbered_assignments m
@@ -32,4 +32,4 @@ pub record IsResolved (m : Known) (numbers : Text → Option Number) (order : Li
 -- So a module comes to these, if each of its variables and functions stands under its own name.
 abbrev pub ResolvesTo : {S : Type 0} → Known → HashMap Text Number S × Vec Name Global → List (Text × Assignment) → List (Text × FunctionDefinition) → Type 0
 ResolvesTo m made assignments functions =
-    IsKeyed name_of_assignment m.assignments → IsKeyed name_of_function m.functions → IsResolved m (get bytes_eq made.0) made.1.items assignments functions
+    IsKeyed name_of_assignment m.assignments → IsKeyed name_of_function m.functions → AreVariablesResolved m (get bytes_eq made.0) made.1.items assignments functions

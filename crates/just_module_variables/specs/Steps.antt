@@ -46,7 +46,7 @@ abbrev pub rows_of : List (Vec ℕ Global) → List (List ℕ)
 rows_of = map (λ row. row.items)
 
 -- the rows of the nodes, where variables and functions are found at these places
-pub record AreRowsOf (m : Known) (rows : List (List ℕ)) : Type 0 where
+pub record AreNodeRows (m : Known) (rows : List (List ℕ)) : Type 0 where
   pub variable : Text → Option ℕ
   pub function : Text → Option ℕ
   pub variables : IsIndex (variables_of m) variable

@@ -3,7 +3,7 @@
 ghost use Rattle.std.specs.Prelude.{◌≡◌, ◌∷◌, [], IfOk, IfErr, OnOk, Some, map};
 ghost use Rattle.std.specs.HashMap.{get};
 ghost use Rattle.std.specs.List.{Contains};
-ghost use Rattle.just_module_variables.specs.Constants.{CoversAll, CoversSets, NamesFaultIn, evaluated_in};
+ghost use Rattle.just_module_variables.specs.Constants.{CoversAll, CoversSets, TellsFaultIn, evaluated_in};
 ghost use Rattle.just_module_variables.specs.Overrides.{last_of, overridden_among};
 ghost use Rattle.just_module_variables.specs.Variables.{AreVariablesOf, known_with_numbers};
 ghost use Rattle.just_errors.specs.Causes.{Keeps, Reports};
@@ -89,7 +89,7 @@ fn check_expressions<'e, 'a, 'src, S: Syntax>(
     ensures kept { let m = known_in (S.answers known.now.syntax.now) known.now in
         OnOk result ((e : Expression) → Contains (lent expressions.now.items) e → Keeps (Misnames m none_hidden e)) }
     ensures named { let m = known_in (S.answers known.now.syntax.now) known.now in
-        IfErr result (NamesFaultIn m (lent expressions.now.items)) }
+        IfErr result (TellsFaultIn m (lent expressions.now.items)) }
 {
     let hidden = HashSet::new(alloc);
     for place in 0..expressions.len() {
@@ -133,7 +133,7 @@ pub fn evaluate_constants<'k, 'a, 'src, S: Syntax, E: ConstantEvaluation>(
     requires variables { AreVariablesOf (S.answers given.now.syntax.now) (contents_in definitions.now) variables.now }
     requires apart { HaveNumbersApart (known_with_numbers (S.answers given.now.syntax.now) (contents_in definitions.now)) }
     ensures kept { let given = given_by S.answers E.answers given.now in
-        IfOk result (λ _. Keeps (rule.Constants (layers_at given path.now) (contents_in definitions.now))) }
+        IfOk result (λ _. Keeps (rule.BreaksConstants (layers_at given path.now) (contents_in definitions.now))) }
     ensures evaluated { let given = given_by S.answers E.answers given.now in
         IfOk result (λ it. rule.IsEvaluated (layers_at given path.now) (contents_in definitions.now) (evaluated_in it)) }
     ensures covered { IfOk result (λ it. CoversAll variables.now (values_of it.scope) (rule.constant_expressions (contents_in definitions.now))) }
@@ -141,7 +141,7 @@ pub fn evaluate_constants<'k, 'a, 'src, S: Syntax, E: ConstantEvaluation>(
         IfOk result (λ it. it.overridden.items ≡ found) }
     ensures overrides { IfOk result (λ it. (n : Number) → get same_number it.overrides n ≡ last_of it.overridden.items n) }
     ensures named { let given = given_by S.answers E.answers given.now in
-        IfErr result (Reports (rule.Constants (layers_at given path.now) (contents_in definitions.now))) }
+        IfErr result (Reports (rule.BreaksConstants (layers_at given path.now) (contents_in definitions.now))) }
 {
     let alloc = given.alloc;
     let known = Known {

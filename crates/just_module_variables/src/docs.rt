@@ -5,7 +5,7 @@ ghost use Rattle.just_module_variables.specs.Constants.{CoversAll};
 ghost use Rattle.just_module_variables.specs.Documented.{AreDocumentedIn, CoversDoc, DocFault, IsDocumented, KeepsDoc, doc_expressions, known_by, value_by};
 ghost use Rattle.just_module_variables.specs.Variables.{AreVariablesOf};
 ghost use Rattle.just_errors.specs.Causes.{Keeps, Reports};
-ghost use Rattle.just_module_contents.specs.Constants.{Docs};
+ghost use Rattle.just_module_contents.specs.Constants.{BreaksDocs};
 ghost use Rattle.just_module_contents.specs.Definitions.{contents_in, docs_in};
 ghost use Rattle.just_parts.specs.Evaluator.{values_of};
 
@@ -64,11 +64,11 @@ pub fn document<'k, 'a, 'src, S: Syntax, E: ConstantEvaluation>(
     requires docs { docs_in definitions.now ≡ doc_expressions labels.now }
     requires variables { AreVariablesOf (S.answers given.now.syntax.now) (contents_in definitions.now) variables.now }
     requires covered { CoversAll variables.now (values_of constants.now) (docs_in definitions.now) }
-    ensures kept { let docs = Docs (S.answers given.now.syntax.now) (E.answers given.now.evaluation.now) in
+    ensures kept { let docs = BreaksDocs (S.answers given.now.syntax.now) (E.answers given.now.evaluation.now) in
         IfOk result (λ _. Keeps (docs (contents_in definitions.now) (values_of constants.now))) }
     ensures labels { let m = contents_in definitions.now in
         IfOk result (λ made. AreDocumentedIn (E.answers given.now.evaluation.now) m (values_of constants.now) labels.now made.items) }
-    ensures named { let docs = Docs (S.answers given.now.syntax.now) (E.answers given.now.evaluation.now) in
+    ensures named { let docs = BreaksDocs (S.answers given.now.syntax.now) (E.answers given.now.evaluation.now) in
         IfErr result (Reports (docs (contents_in definitions.now) (values_of constants.now))) }
 {
     let mut made = Vec::with_capacity(given.alloc, labels.len())?;

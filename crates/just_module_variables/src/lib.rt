@@ -4,17 +4,17 @@
 
 mod constants;
 mod docs;
+mod evaluation_order;
 mod expressions;
+mod name_numbers;
 mod nodes;
-mod numbering;
-mod ordering;
 mod overrides;
-mod resolving;
+mod resolution;
 pub mod variable_resolver;
 mod variables;
 
 pub use constants::{Constants, evaluate_constants};
 pub use docs::document;
-pub use numbering::parameter_numbers;
+pub use name_numbers::parameter_numbers;
 pub use variable_resolver::VariableResolver;
 pub use variables::{Variables, resolve_variables};

@@ -11,7 +11,7 @@ ghost use Rattle.just_table.specs.Entries.{IsSorted};
 ghost use Rattle.just_name_resolution.specs.Lent.{known_in};
 ghost use Rattle.just_module_variables.specs.Places.{Fit, target_in, targets_in};
 ghost use Rattle.just_parts.specs.Scopes.{body_scoped, scoped, value_scoped};
-ghost use Rattle.just_module_variables.specs.Steps.{AreRowsOf, rows_of, solid_of};
+ghost use Rattle.just_module_variables.specs.Steps.{AreNodeRows, rows_of, solid_of};
 
 use just_ast_references::{Reference, References};
 use just_data::BorrowedText;
@@ -184,7 +184,7 @@ pub(crate) fn nodes_of<'a, 'src, S: Syntax>(
 ) -> Result<Nodes, AllocError>
     ensures variables { IfOk result (λ _. IsSorted known.now.assignments.now) }
     ensures functions { IfOk result (λ _. IsSorted known.now.functions.now) }
-    ensures rows { IfOk result (λ nodes. AreRowsOf (known_in (S.answers known.now.syntax.now) known.now) (rows_of nodes.rows.items)) }
+    ensures rows { IfOk result (λ nodes. AreNodeRows (known_in (S.answers known.now.syntax.now) known.now) (rows_of nodes.rows.items)) }
     ensures solid { IfOk result (λ nodes. nodes.solid.items ≡ solid_of (known_in (S.answers known.now.syntax.now) known.now)) }
 {
     let places = places_of(alloc, known)?;

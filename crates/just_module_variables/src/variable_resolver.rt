@@ -13,9 +13,9 @@ ghost use Rattle.just_parts.specs.Known.{hides, known};
 ghost use Rattle.just_parts.specs.Misnaming.{Expressions, Misnames, MisnamesCall};
 ghost use Rattle.just_parts.specs.Reading.{Reads};
 
-use crate::numbering::{parameter_numbers, variable_numbers};
-use crate::ordering::order_assignments;
-use crate::resolving::{Numbering, names_at, names_of};
+use crate::evaluation_order::order_assignments;
+use crate::name_numbers::{parameter_numbers, variable_numbers};
+use crate::resolution::{Numbering, names_at, names_of};
 use just_data::{BorrowedText, Text};
 use just_name_resolution::{
     Known, Numbers, Tables, check_call, check_expression, hidden_names, numbered,

@@ -1,7 +1,7 @@
 -- What names stand for in a module whose tables the code lends.
 use Rattle.just_parts.specs.Known.{Known, known, sources}
 use Rattle.just_parts.specs.Syntax.{SyntaxAnswers}
-use Rattle.just_name_resolution.specs.declared.checking.Known as lent
+use Rattle.just_name_resolution.specs.declared.name_checks.Known as lent
 use Rattle.just_name_resolution.specs.declared.needs.Tables.{Tables}
 
 abbrev pub known_in : {A : Type 0} → SyntaxAnswers → lent.Known A → Known

@@ -2,10 +2,10 @@
 //! what variables an expression needs.
 #![tactic(auto)]
 
-mod checking;
+mod name_checks;
 mod needs;
 pub mod numbers;
 
-pub use checking::{Known, check_call, check_expression, check_names, hidden_names};
+pub use name_checks::{Known, check_call, check_expression, check_names, hidden_names};
 pub use needs::{Tables, assignment_references, collect_references, needed_references};
 pub use numbers::{Numbers, numbered};

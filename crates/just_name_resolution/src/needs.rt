@@ -13,7 +13,7 @@ ghost use Rattle.just_parts.specs.Known.{hides};
 ghost use Rattle.just_name_resolution.specs.Lent.{tables_in};
 ghost use Rattle.just_parts.specs.Reading.{Reads, mentions};
 
-use crate::checking::hidden_names;
+use crate::name_checks::hidden_names;
 use just_ast_references::{Reference, References};
 use just_data::{BorrowedText, Text};
 use just_parts::layers::{

@@ -9,7 +9,7 @@ use Rattle.just_module_contents.specs.Rules.{of_named}
 use Rattle.just_module_tree.specs.Groups.{KeepsGroups, KeepsModules}
 use Rattle.just_module_tree.specs.Modules.{Empty, Forest, HasModule, Module, Tree, after_it, contents_of, first, in_it, items_of}
 use Rattle.just_module_tree.specs.Standing as trees
-use Rattle.just_module_tree.specs.Standing.{Place, absent_in, find_inner, follow, name_in}
+use Rattle.just_module_tree.specs.Standing.{WalkEnd, absent_in, find_inner, follow, name_in}
 use Rattle.just_names.specs.Texts.{Text}
 use Rattle.just_parts.specs.Layers.{Given}
 use Rattle.just_overrides.proofs.Once.{OnceNamed, all_different, none_repeat, once_named}
@@ -42,13 +42,13 @@ once_inner name (Tree m inside after) n within all e =
     (once_inner name after n within (λ k under has. all k under (after_it has))) e
 
 -- and in one to which names lead
-abbrev next_place : List Text → Text → Bool → Option (Module × Forest) → Place
-next_place names x absent found = elim found as (λ _. Place) [
+abbrev next_place : List Text → Text → Bool → Option (Module × Forest) → WalkEnd
+next_place names x absent found = elim found as (λ _. WalkEnd) [
   | Some n ↦ trees.beyond x (follow names n.0 n.1)
   | None ↦ if absent then trees.Missing (x ∷ []) else trees.Nowhere
 ]
 
-beyond_in : (x : Text) (n : Module) (within : Forest) (p : Place) → trees.beyond x p ≡ trees.In n within → p ≡ trees.In n within
+beyond_in : (x : Text) (n : Module) (within : Forest) (p : WalkEnd) → trees.beyond x p ≡ trees.In n within → p ≡ trees.In n within
 beyond_in x n within (trees.In m inside) e = e
 beyond_in x n within (trees.Missing names) e = cc
 beyond_in x n within trees.Nowhere e = cc

@@ -16,9 +16,9 @@ use Rattle.just_module_recipes.specs.Aliased.{aimed, as_module_alias, as_recipe,
 use Rattle.just_module_recipes.specs.declared.aliases.Meaning.{Meaning}
 use Rattle.just_module_recipes.specs.declared.aliases.Meaning.TheVariants as meaning
 use Rattle.just_module_tree.specs.Modules.{Forest, Module, contents_of}
-use Rattle.just_module_tree.specs.Overrides.{Reaches, Steps, at_end, by_step, to_aliased, to_inner}
+use Rattle.just_module_tree.specs.Overrides.{Reaches, StepsTo, at_end, by_step, to_aliased, to_inner}
 use Rattle.just_module_tree.specs.Standing as trees
-use Rattle.just_module_tree.specs.Standing.{Place, find_inner, follow}
+use Rattle.just_module_tree.specs.Standing.{WalkEnd, find_inner, follow}
 use Rattle.just_names.specs.Name.{text_of_name, texts_of_path}
 use Rattle.just_names.specs.Texts.{Text}
 use Rattle.just_names.specs.declared.name.Namepath.{Namepath}
@@ -54,7 +54,7 @@ module_alias_name a made (Some (meaning.Recipe number)) i = absurd i
 
 -- what is kept by each step is kept by all
 by_steps : (R : Module → Forest → List Text → Module → Forest → Type 0) → ((m : Module) (inside : Forest) → R m inside [] m inside)
-    → ((m n to : Module) (inside within under : Forest) (name : Text) (names : List Text) → Steps m inside name n within → R n within names to under → R m inside (name ∷ names) to under)
+    → ((m n to : Module) (inside within under : Forest) (name : Text) (names : List Text) → StepsTo m inside name n within → R n within names to under → R m inside (name ∷ names) to under)
     → {m n : Module} {inside within : Forest} {names : List Text} → Reaches m inside names n within → R m inside names n within
 by_steps R here onward (at_end {m} {inside}) = here m inside
 by_steps R here onward (by_step {m} {n} {to} {inside} {within} {under} {name} {names} s r) = onward m n to inside within under name names s (by_steps R here onward r)
@@ -74,8 +74,8 @@ module _ (given : Given) (asts : AstKey → Option Ast) (loaded : List Text) (bu
   placed p q c same shows = subst (λ (x : Module × Forest). Shows given asts loaded built x.0 x.1 c) same shows
 
   -- by cases, whatever is said
-  agree_cases : (R : Place → End → Type 0) → ((n : Module) (below : Forest) (c : Justfile) → Shows given asts loaded built n below c → R (trees.In n below) (walks.Inside c))
-      → ((names : List Text) → R (trees.Missing names) (walks.Absent names)) → R trees.Nowhere walks.Nowhere → {p : Place} {e : End} → Agree given asts loaded built p e → R p e
+  agree_cases : (R : WalkEnd → End → Type 0) → ((n : Module) (below : Forest) (c : Justfile) → Shows given asts loaded built n below c → R (trees.In n below) (walks.Inside c))
+      → ((names : List Text) → R (trees.Missing names) (walks.Absent names)) → R trees.Nowhere walks.Nowhere → {p : WalkEnd} {e : End} → Agree given asts loaded built p e → R p e
   agree_cases R in_both absent nowhere (both_inside {n} {below} {c} shows) = in_both n below c shows
   agree_cases R in_both absent nowhere (both_absent {names}) = absent names
   agree_cases R in_both absent nowhere both_nowhere = nowhere
@@ -86,7 +86,7 @@ module _ (given : Given) (asts : AstKey → Option Ast) (loaded : List Text) (bu
   found_cases R in_both none neither = none
 
   -- a walk that ends in a justfile ends in its module, and the other way
-  abbrev ModuleOf : Place → End → Type 0
+  abbrev ModuleOf : WalkEnd → End → Type 0
   ModuleOf p e = (c : Justfile) → e ≡ walks.Inside c → (n : Module) × (within : Forest) × (p ≡ trees.In n within) × Shows given asts loaded built n within c
 
   one_end : (k c : Justfile) → walks.Inside k ≡ walks.Inside c → k ≡ c
@@ -98,10 +98,10 @@ module _ (given : Given) (asts : AstKey → Option Ast) (loaded : List Text) (bu
   nowhere_inside : (c : Justfile) → walks.Nowhere ≡ walks.Inside c → ⊥
   nowhere_inside c e = cc
 
-  module_of : {p : Place} {e : End} → Agree given asts loaded built p e → ModuleOf p e
+  module_of : {p : WalkEnd} {e : End} → Agree given asts loaded built p e → ModuleOf p e
   module_of = agree_cases ModuleOf (λ n below k shows c e. (n, below, refl, moved n below k c (one_end k c e) shows)) (λ names c e. absurd (absent_inside names c e)) (λ c e. absurd (nowhere_inside c e))
 
-  justfile_of : {p : Place} {e : End} → Agree given asts loaded built p e → (n : Module) (within : Forest) → p ≡ trees.In n within → (c : Justfile) × (e ≡ walks.Inside c)
+  justfile_of : {p : WalkEnd} {e : End} → Agree given asts loaded built p e → (n : Module) (within : Forest) → p ≡ trees.In n within → (c : Justfile) × (e ≡ walks.Inside c)
   justfile_of (both_inside {c} shows) n within e = (c, refl)
   justfile_of both_absent n within e = cc
   justfile_of both_nowhere n within e = cc
@@ -188,7 +188,7 @@ module _ (given : Given) (asts : AstKey → Option Ast) (loaded : List Text) (bu
 
     module _ (m : Module) (inside : Forest) (j : Justfile) (at : At m inside j) (name : Text) where
       abbrev Led : Justfile → Type 0
-      Led k = (n : Module) × (within : Forest) × Steps m inside name n within × At n within k
+      Led k = (n : Module) × (within : Forest) × StepsTo m inside name n within × At n within k
 
       inner_at : (n : Module) (within : Forest) (c : Justfile) → find_inner name inside ≡ Some (n, within) → module_named name (out-Justfile j).modules ≡ Some c → Shows given asts loaded built n within c → At n within c
       inner_at n within c e f shows =
@@ -262,7 +262,7 @@ module _ (given : Given) (asts : AstKey → Option Ast) (loaded : List Text) (bu
           )
 
       -- and the other way
-      pub step_on : (n : Module) (within : Forest) → Steps m inside name n within → Stepped n within
+      pub step_on : (n : Module) (within : Forest) → StepsTo m inside name n within → Stepped n within
       step_on n within (to_inner e) = inner_step n within (inner_found m inside j at.shows name) refl refl e
       step_on n within (to_aliased alias none there named leads) =
           alias_step alias n within none (is_in alias (contents_of m).aliases there) named leads (find name (out-Justfile j).aliases.modules) refl
@@ -296,7 +296,7 @@ module _ (given : Given) (asts : AstKey → Option Ast) (loaded : List Text) (bu
     abbrev ReachedOn : Module → Forest → List Text → Module → Forest → Type 0
     ReachedOn m inside names n within = (j : Justfile) → At m inside j → (k : Justfile) × (reached_from root j names ≡ Some k) × At n within k
 
-    one_on : (m n to : Module) (inside within under : Forest) (name : Text) (names : List Text) → Steps m inside name n within → ReachedOn n within names to under → ReachedOn m inside (name ∷ names) to under
+    one_on : (m n to : Module) (inside within under : Forest) (name : Text) (names : List Text) → StepsTo m inside name n within → ReachedOn n within names to under → ReachedOn m inside (name ∷ names) to under
     one_on m n to inside within under name names s later j at =
         let x = step_on m inside j at name n within s in
         let y = later x.0 x.2 in

@@ -11,7 +11,7 @@ use Rattle.just_graph.proofs.Index.{some_at}
 use Rattle.just_graph.proofs.Members.{In}
 use Rattle.just_module_contents.specs.Contents.{Defined, defined_naming, texts_of_named}
 use Rattle.just_module_contents.specs.Named.{alias_by, naming_by}
-use Rattle.just_module_contents.specs.Rules.{IsRedefinition, Named, named_redefinition}
+use Rattle.just_module_contents.specs.Rules.{IsRedefinition, BreaksNamings, named_redefinition}
 use Rattle.just_module_contents.specs.declared.definitions.Naming.{Naming}
 use Rattle.just_names.specs.Index.{AreDifferent, Repeats, name_at}
 use Rattle.just_names.specs.Name.{text_of_name}
@@ -60,7 +60,7 @@ told_of first second = elim (cases_lt second.name.token.line first.name.token.li
   )
 ]
 
-pub none_repeat : (named : List Naming) → Keeps (Named named) → (i j : ℕ) → Repeats (texts_of_named named) i j → ⊥
+pub none_repeat : (named : List Naming) → Keeps (BreaksNamings named) → (i j : ℕ) → Repeats (texts_of_named named) i j → ⊥
 none_repeat named kept i j repeats =
     let many = length-map (map defined_naming named) (λ (d : Defined). text_of_name d.name) in
     let first = some_at (map defined_naming named) i (omega (arith, many, repeats.apart, repeats.within)) in

@@ -10,7 +10,7 @@ use Rattle.just_justfile.specs.declared.justfile.Justfile.{Justfile, out-Justfil
 use Rattle.just_module_headers.specs.Reading.{Reading, reading_of}
 use Rattle.just_module_tree.specs.Groups.{KeepsModules}
 use Rattle.just_module_tree.specs.Modules.{AreModules, Empty, Forest, Heading, Module, Tree, a_module, first, in_it, no_module}
-use Rattle.just_module_tree.specs.Overrides.{AreUnknown, BreaksOverrides, Key, MeansVariable, NamesNone, is_known, is_unknown, no_key, no_variables, shown}
+use Rattle.just_module_tree.specs.Overrides.{AreUnknown, BreaksOverrides, OverrideKey, MeansVariable, NamesNone, is_known, is_unknown, no_key, no_variables, shown}
 use Rattle.just_names.specs.Texts.{Text}
 use Rattle.just_names.specs.declared.number.Number.{Number}
 use Rattle.just_parts.specs.Asts.{AstKey}
@@ -23,7 +23,7 @@ use Rattle.just_table.specs.Entries.{find}
 use Rattle.just_compiled.proofs.Agreeing.{SayAll, Shows}
 use Rattle.just_compiled.proofs.Saying.{Says, forest_says}
 use Rattle.just_compiled.specs.Justfiles.{AreCompiled, Built, IsCompiled, Made, none, one, recipes_of_all}
-use Rattle.just_overrides.specs.Applied.{Tells}
+use Rattle.just_overrides.specs.Applied.{TellsUnknown}
 use Rattle.just_overrides.specs.Reached.{number_in, reached, told_of, unknown, variable_of}
 use Rattle.just_overrides.proofs.Kept.{all_once}
 use Rattle.just_overrides.proofs.Leading.{At, reached_back, reached_on}
@@ -83,24 +83,24 @@ module _ (given : Given) (asts : AstKey → Option Ast) (loaded : List Text) (bu
     at : At given asts loaded built recipes root closed at_root m inside root
     at = record { shows = shows; once = all_once given _ kept m inside first; inner_once = λ n under has. all_once given _ kept n under (in_it has); stands = itself }
 
-    abbrev Means : Key → Type 0
+    abbrev Means : OverrideKey → Type 0
     Means = MeansVariable m inside
 
     number_some : (o : Option Assignment) (number : Number) → option_map (λ (a : Assignment). a.number) o ≡ Some number → (a : Assignment) × (o ≡ Some a)
     number_some None number e = cc
     number_some (Some a) number e = (a, refl)
 
-    means_at : (key : Key) (number : Number) (k : Justfile) → reached root key.0.components ≡ Some k → number_in key.1 k ≡ Some number → Means key
+    means_at : (key : OverrideKey) (number : Number) (k : Justfile) → reached root key.0.components ≡ Some k → number_in key.1 k ≡ Some number → Means key
     means_at key number k f g =
         let r = reached_back given asts loaded built recipes root closed at_root key.0.components m inside root k at f in
         let a = number_some (find key.1 (out-Justfile k).assignments) number g in
         record { n = r.0; within = r.1; reaches = r.2; named = variable_kept given asts loaded built r.0 r.1 k r.3.shows key.1 a.0 a.1 }
 
-    none_meant : (key : Key) (number : Number) → option_and_then (number_in key.1) None ≡ Some number → ⊥
+    none_meant : (key : OverrideKey) (number : Number) → option_and_then (number_in key.1) None ≡ Some number → ⊥
     none_meant key number e = cc
 
     -- a key that means a variable of the compiled modules means one of the tree
-    pub means_back : (key : Key) (number : Number) → variable_of root key ≡ Some number → Means key
+    pub means_back : (key : OverrideKey) (number : Number) → variable_of root key ≡ Some number → Means key
     means_back key number e = go (reached root key.0.components) refl e
       where
         go : (o : Option Justfile) → reached root key.0.components ≡ o → option_and_then (number_in key.1) o ≡ Some number → Means key
@@ -112,13 +112,13 @@ module _ (given : Given) (asts : AstKey → Option Ast) (loaded : List Text) (bu
     lost_number (Some a) e = cc
 
     -- and the other way
-    pub means_on : (key : Key) → variable_of root key ≡ None → Means key → ⊥
+    pub means_on : (key : OverrideKey) → variable_of root key ≡ None → Means key → ⊥
     means_on key e means =
         let r = reached_on given asts loaded built recipes root closed at_root means.reaches root at in
         kept_variable given asts loaded built means.n means.within r.0 r.2.shows key.1 means.named (lost_number (find key.1 (out-Justfile r.0).assignments) (ap (option_and_then (number_in key.1)) (sym r.1) ∙ e))
 
     -- so the same are unknown
-    are_unknown : (entries : List (Key × Text)) → AreUnknown Means (keys_of entries) (unknown root entries)
+    are_unknown : (entries : List (OverrideKey × Text)) → AreUnknown Means (keys_of entries) (unknown root entries)
     are_unknown [] = no_key
     are_unknown (entry ∷ entries) = go (are_unknown entries) (variable_of root entry.0) refl
       where
@@ -127,10 +127,10 @@ module _ (given : Given) (asts : AstKey → Option Ast) (loaded : List Text) (bu
         go rest (Some number) e = is_known (means_back entry.0 number e) rest
 
     -- what is told is broken
-    pub tells_broken : (entries : List (Key × Text)) (c : Cause) → Tells (unknown root entries) c → BreaksOverrides (keys_of entries) (Tree m inside Empty) c
+    pub tells_broken : (entries : List (OverrideKey × Text)) (c : Cause) → TellsUnknown (unknown root entries) c → BreaksOverrides (keys_of entries) (Tree m inside Empty) c
     tells_broken entries c tells = subst (NamesNone Means (keys_of entries)) (sym tells.1) (no_variables (are_unknown entries) tells.0)
 
-    all_known : (entries : List (Key × Text)) → unknown root entries ≡ [] → (key : Key) → In key (keys_of entries) → Means key
+    all_known : (entries : List (OverrideKey × Text)) → unknown root entries ≡ [] → (key : OverrideKey) → In key (keys_of entries) → Means key
     all_known [] e key i = absurd i
     all_known (entry ∷ entries) e key i = go (λ g. all_known entries g key) (variable_of root entry.0) refl e i
       where
@@ -139,14 +139,14 @@ module _ (given : Given) (asts : AstKey → Option Ast) (loaded : List Text) (bu
         go rest (Some number) f g (inl same) = subst Means (sym same) (means_back entry.0 number f)
         go rest (Some number) f g (inr i) = rest g i
 
-    none_told : {keys : List Key} {texts : List Text} → AreUnknown Means keys texts → ((key : Key) → In key keys → Means key) → texts ≡ []
+    none_told : {keys : List OverrideKey} {texts : List Text} → AreUnknown Means keys texts → ((key : OverrideKey) → In key keys → Means key) → texts ≡ []
     none_told no_key all = refl
     none_told (is_known means rest) all = none_told rest (λ key i. all key (inr i))
     none_told (is_unknown {key} lost rest) all = absurd (lost (all key (inl refl)))
 
-    none_named : (entries : List (Key × Text)) → unknown root entries ≡ [] → Keeps (NamesNone Means (keys_of entries))
+    none_named : (entries : List (OverrideKey × Text)) → unknown root entries ≡ [] → Keeps (NamesNone Means (keys_of entries))
     none_named entries e _ (no_variables are some) = some (none_told are (all_known entries e))
 
     -- where none is told nothing is broken
-    pub none_broken : (entries : List (Key × Text)) → unknown root entries ≡ [] → Keeps (BreaksOverrides (keys_of entries) (Tree m inside Empty))
+    pub none_broken : (entries : List (OverrideKey × Text)) → unknown root entries ≡ [] → Keeps (BreaksOverrides (keys_of entries) (Tree m inside Empty))
     none_broken entries e = none_named entries e

@@ -6,7 +6,7 @@ use Rattle.std.specs.Option.{option_and_then, option_copied, option_or}
 use Rattle.just_ast_definitions.specs.declared.alias.Alias.{Alias}
 use Rattle.just_graph.proofs.Index.{some_same}
 use Rattle.just_justfile.proofs.Leading.{along_walk, end_ordered, named_ordered}
-use Rattle.just_justfile.specs.Walks.{IsOrdered, inner_along, module_named}
+use Rattle.just_justfile.specs.Walks.{AreModulesOrdered, inner_along, module_named}
 use Rattle.just_justfile.specs.declared.justfile.Justfile.{Justfile, out-Justfile}
 use Rattle.just_names.specs.Texts.{Text}
 use Rattle.just_paths.specs.declared.modulepath.Modulepath.{Modulepath}
@@ -14,21 +14,21 @@ use Rattle.just_table.specs.Entries.{find}
 use Rattle.just_overrides.specs.Reached.{aliased, reached_from, step}
 
 -- the names of the modules in one to which names lead rise
-along_ordered : (root j : Justfile) (names : List Text) → IsOrdered root → inner_along root names ≡ Some j → IsOrdered j
-along_ordered root j [] order e = subst IsOrdered (some_same e) order
+along_ordered : (root j : Justfile) (names : List Text) → AreModulesOrdered root → inner_along root names ≡ Some j → AreModulesOrdered j
+along_ordered root j [] order e = subst AreModulesOrdered (some_same e) order
 along_ordered root j (name ∷ names) order e = end_ordered (name ∷ names) (out-Justfile root).absent_modules (out-Justfile root).modules j order (along_walk root j name names e)
 
-module _ (root : Justfile) (rooted : IsOrdered root) where
-  alias_ordered : (k : Justfile) (o : Option (Alias Modulepath)) → option_and_then (λ (alias : Alias Modulepath). inner_along root alias.target.components) o ≡ Some k → IsOrdered k
+module _ (root : Justfile) (rooted : AreModulesOrdered root) where
+  alias_ordered : (k : Justfile) (o : Option (Alias Modulepath)) → option_and_then (λ (alias : Alias Modulepath). inner_along root alias.target.components) o ≡ Some k → AreModulesOrdered k
   alias_ordered k None e = cc
   alias_ordered k (Some alias) e = along_ordered root k alias.target.components rooted e
 
-  by_found : (j k : Justfile) (name : Text) (o : Option Justfile) → IsOrdered j → module_named name (out-Justfile j).modules ≡ o → option_or o (aliased root j name) ≡ Some k → IsOrdered k
+  by_found : (j k : Justfile) (name : Text) (o : Option Justfile) → AreModulesOrdered j → module_named name (out-Justfile j).modules ≡ o → option_or o (aliased root j name) ≡ Some k → AreModulesOrdered k
   by_found j k name None order f e = alias_ordered k (find name (out-Justfile j).aliases.modules) e
-  by_found j k name (Some inner) order f e = subst IsOrdered (some_same e) (named_ordered name (out-Justfile j).modules inner order f)
+  by_found j k name (Some inner) order f e = subst AreModulesOrdered (some_same e) (named_ordered name (out-Justfile j).modules inner order f)
 
   -- so do those in one to which a name leads
-  pub step_ordered : (j : Justfile) (name : Text) (o : Option (Bor Justfile)) → IsOrdered j → option_copied o ≡ step root j name → IfSome o (λ k. IsOrdered k.now)
+  pub step_ordered : (j : Justfile) (name : Text) (o : Option (Bor Justfile)) → AreModulesOrdered j → option_copied o ≡ step root j name → IfSome o (λ k. AreModulesOrdered k.now)
   step_ordered j name None order e = tt
   step_ordered j name (Some k) order e = by_found j k.now name (module_named name (out-Justfile j).modules) order refl (sym e)
 

@@ -5,7 +5,7 @@ use Rattle.just_ast_definitions.specs.declared.alias.Alias.{Alias}
 use Rattle.just_ast_definitions.specs.declared.assignment.Assignment.{Assignment}
 use Rattle.just_justfile.specs.Walks.{inner_along, module_named}
 use Rattle.just_justfile.specs.declared.justfile.Justfile.{Justfile, out-Justfile}
-use Rattle.just_module_tree.specs.Overrides.{Key, shown}
+use Rattle.just_module_tree.specs.Overrides.{OverrideKey, shown}
 use Rattle.just_names.specs.Texts.{Text}
 use Rattle.just_names.specs.declared.number.Number.{Number}
 use Rattle.just_paths.specs.declared.modulepath.Modulepath.{Modulepath}
@@ -32,7 +32,7 @@ abbrev pub number_in : Text → Justfile → Option Number
 number_in name j = option_map (λ (a : Assignment). a.number) (find name (out-Justfile j).assignments)
 
 -- the number of the variable that a key means
-abbrev pub variable_of : Justfile → Key → Option Number
+abbrev pub variable_of : Justfile → OverrideKey → Option Number
 variable_of root key = option_and_then (number_in key.1) (reached root key.0.components)
 
 -- the number that is meant, with the value that is given
@@ -46,9 +46,9 @@ told_of key None = key ∷ []
 told_of key (Some number) = []
 
 -- the numbers of the variables that keys mean, with the values that are given, in the order of the keys
-abbrev pub meant : Justfile → List (Key × Text) → List (Number × Text)
-meant root entries = flat_map (λ (entry : Key × Text). given_for entry.1 (variable_of root entry.0)) entries
+abbrev pub meant : Justfile → List (OverrideKey × Text) → List (Number × Text)
+meant root entries = flat_map (λ (entry : OverrideKey × Text). given_for entry.1 (variable_of root entry.0)) entries
 
 -- the keys that mean no variable, as they are shown, in their order
-abbrev pub unknown : Justfile → List (Key × Text) → List Text
-unknown root entries = flat_map (λ (entry : Key × Text). told_of (shown entry.0) (variable_of root entry.0)) entries
+abbrev pub unknown : Justfile → List (OverrideKey × Text) → List Text
+unknown root entries = flat_map (λ (entry : OverrideKey × Text). told_of (shown entry.0) (variable_of root entry.0)) entries

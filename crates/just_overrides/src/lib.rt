@@ -1,9 +1,9 @@
 //! The values that a front gives for variables of modules: which variable a key means, and that each key means one.
 #![tactic(auto)]
 
+mod application;
 mod insertion;
-mod overriding;
-mod walking;
+mod walk;
 
+pub use application::apply_overrides;
 pub use insertion::insert_all;
-pub use overriding::apply_overrides;

@@ -1,1 +1,3 @@
 pub mod Groups
+pub mod Headings
+pub mod Writing

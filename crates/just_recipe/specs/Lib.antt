@@ -1,4 +1,5 @@
 pub mod Grouping
+pub mod RecipeTexts
 pub mod Recipes
 pub mod Resolved
 pub mod Script

@@ -4,6 +4,9 @@
 mod dependency;
 mod grouping;
 mod recipe;
+mod recipe_signature;
+mod texts;
 
 pub use dependency::{Dependency, DependencyArgument, UnresolvedDependency};
 pub use recipe::{Recipe, UnresolvedRecipe};
+pub use recipe_signature::RecipeSignature;

@@ -1,11 +1,15 @@
 //! Recipes, as a text says them and resolved.
-ghost use Rattle.std.specs.Prelude.{◌≡◌, ◌≤◌, length, take, drop, count_by, IfErr, IsSome, OnOk, Some};
+ghost use Rattle.std.specs.Prelude.{◌≡◌, ◌≤◌, length, map, take, drop, count_by, IfErr, IsSome, OnOk, Some};
+ghost use Rattle.std.specs.Fmt.{DisplaysOnOk};
+ghost use Rattle.std.specs.Option.{option_map};
 ghost use Rattle.std.specs.List.{list_any};
+ghost use Rattle.just_recipe.specs.RecipeTexts.{all_texts, dependencies_text};
 ghost use Rattle.just_recipe.specs.Recipes.{CannotBeDefault};
 ghost use Rattle.just_recipe.specs.Script.{is_shell};
 ghost use Rattle.just_ast_definitions.specs.Parameter.{is_required, least_arguments, most_arguments};
 
 use crate::dependency::{Dependency, UnresolvedDependency};
+use crate::texts::{text_if, write_each};
 use just_ast_definitions::{Attribute, Line, NamedAttribute, Parameter, any_variadic};
 use just_ast_expressions::Settings;
 use just_data::{BorrowedText, Chain, Exact, Sequence, Shared, Text};
@@ -14,6 +18,7 @@ use just_names::{Name, Number};
 use just_paths::Modulepath;
 use just_table::Keyed;
 use std::alloc::AllocError;
+use std::fmt;
 
 /// A recipe. Its first `priors` dependencies run before it, the others after it. The last three fields are there once
 /// it is resolved.
@@ -278,4 +283,33 @@ impl<'src, D: Exact> Clone for Recipe<'src, D> {
 
 impl<'src, D: Exact> Exact for Recipe<'src, D> {
     ghost exact = { λ x y h. h };
+}
+
+// Writes dependencies, each after a blank, and ` &&` before the first of those that are not among the first `priors`.
+fn write_dependencies<W: fmt::Write, D: fmt::Display>(
+    f: &mut fmt::Formatter<W>,
+    priors: usize,
+    dependencies: &[D],
+) -> fmt::Result
+    ensures { DisplaysOnOk W.write_str_gives f.old result (option_map (dependencies_text priors) (all_texts (map D.output dependencies.now))) f.new }
+{
+    let (priors, subsequents) = dependencies.split_at(priors.min(dependencies.len()));
+    write_each(f, " ", priors)?;
+    f.write_str(text_if(!subsequents.is_empty(), " &&"))?;
+    write_each(f, " ", subsequents)
+}
+
+/// A recipe is shown as its heading, and each line of its body on a line of its own.
+impl<'src, D: fmt::Display> fmt::Display for Recipe<'src, D> {
+    ghost use Rattle.just_recipe.specs.RecipeTexts.{known_recipe_text};
+
+    ghost output = { λ recipe. known_recipe_text D.output recipe };
+
+    fn fmt<W: fmt::Write>(&self, f: &mut fmt::Formatter<W>) -> fmt::Result {
+        write!(f, "{}{}", text_if(self.quiet, "@"), self.name)?;
+        write_each(f, " ", self.parameters.as_slice())?;
+        f.write_str(":")?;
+        write_dependencies(f, self.priors, self.dependencies.as_slice())?;
+        write_each(f, "\n", self.body.as_slice())
+    }
 }

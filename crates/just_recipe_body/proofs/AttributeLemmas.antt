@@ -9,7 +9,7 @@ use Rattle.just_ast_definitions.specs.declared.attribute.Attribute.TheVariants a
 use Rattle.just_ast_definitions.specs.declared.attribute.NamedAttribute.{NamedAttribute}
 use Rattle.just_ast_expressions.specs.declared.expression.Expression.{Expression}
 use Rattle.just_parts.specs.Scopes.{attribute_expressions}
-use Rattle.just_run_layers.specs.Steps.{Give}
+use Rattle.just_run_layers.specs.Interactions.{Return}
 use Rattle.just_recipe_body.specs.Attributes.{changes_directory, directory_in, directory_of, first_said, timestamp_in, timestamp_of}
 use Rattle.just_recipe_body.specs.Body.{BodyContents, directory_steps, joined_steps}
 use Rattle.just_recipe_body.specs.Confirmation.{confirmation_in}
@@ -60,7 +60,7 @@ module _ (P : Expression → Type 0) where
 
 -- the steps for the folder
 pub directory-changed : (b : BodyContents) (o : Option Expression) → changes_directory b.recipe b.context.settings ≡ true → directory_of b.recipe.attributes ≡ o → directory_steps b ≡ joined_steps b o
-directory-changed b o h e = cond-true (changes_directory b.recipe b.context.settings) (joined_steps b (directory_of b.recipe.attributes)) (Give None) h ∙ ap (joined_steps b) e
+directory-changed b o h e = cond-true (changes_directory b.recipe b.context.settings) (joined_steps b (directory_of b.recipe.attributes)) (Return None) h ∙ ap (joined_steps b) e
 
-pub directory-kept : (b : BodyContents) → changes_directory b.recipe b.context.settings ≡ false → directory_steps b ≡ Give None
-directory-kept b h = cond-false (changes_directory b.recipe b.context.settings) (joined_steps b (directory_of b.recipe.attributes)) (Give None) h
+pub directory-kept : (b : BodyContents) → changes_directory b.recipe b.context.settings ≡ false → directory_steps b ≡ Return None
+directory-kept b h = cond-false (changes_directory b.recipe b.context.settings) (joined_steps b (directory_of b.recipe.attributes)) (Return None) h

@@ -21,7 +21,7 @@ use Rattle.just_run_layers.specs.declared.host.Entry.TheVariants.{Show, Timestam
 use Rattle.just_run_layers.specs.Evaluation.{ContextContents, Environment, LineOf, StringOf, Surroundings}
 use Rattle.just_run_layers.specs.Evaluation as evaluation
 use Rattle.just_run_layers.specs.Host.{Answer, Changed, Given, Refused}
-use Rattle.just_run_layers.specs.Steps.{Asks, Fail, Give, Steps, ToEvaluator, ToHost, and_then}
+use Rattle.just_run_layers.specs.Interactions.{Ask, Fail, Return, Interaction, ToEvaluator, ToHost, and_then}
 use Rattle.just_recipe_body.specs.Attributes.{changes_directory, directory_of, timestamp_of}
 use Rattle.just_recipe_body.specs.declared.body.Body.{Body}
 use Rattle.just_recipe_body.specs.declared.body.Preparation.{Preparation}
@@ -63,17 +63,17 @@ unevaluated message = run.Evaluate (record { message = message })
 abbrev pub untimed : Text → RunError
 untimed message = run.DatetimeFormat (record { message = message })
 
-abbrev pub text_or : (Text → RunError) → Answer → Steps Text
-text_or fault (Given text) = Give text
+abbrev pub text_or : (Text → RunError) → Answer → Interaction Text
+text_or fault (Given text) = Return text
 text_or fault (Refused message) = Fail (Failed (fault message))
 text_or fault _ = Fail Memory
 
 -- the text of an expression, and that of a line
-abbrev pub string_steps : BodyContents → Expression → Steps Text
-string_steps b expression = Asks (ToEvaluator (StringOf (around b) expression)) (text_or unevaluated)
+abbrev pub string_steps : BodyContents → Expression → Interaction Text
+string_steps b expression = Ask (ToEvaluator (StringOf (around b) expression)) (text_or unevaluated)
 
-abbrev pub line_steps : BodyContents → Line → Bool → Steps Text
-line_steps b line continued = Asks (ToEvaluator (LineOf (around b) line continued)) (text_or unevaluated)
+abbrev pub line_steps : BodyContents → Line → Bool → Interaction Text
+line_steps b line continued = Ask (ToEvaluator (LineOf (around b) line continued)) (text_or unevaluated)
 
 -- the folder of its module: for the root that of the configuration, where there is one
 abbrev pub folder_of : List Text → Option Text → Text → Text
@@ -84,56 +84,56 @@ abbrev pub folder : BodyContents → Text
 folder b = folder_of b.context.module_path.components b.context.config.working_directory b.context.working_directory
 
 -- the folder that it runs in, where it changes to one: that of the module, or the one to which the text of an attribute leads from there
-abbrev pub joined_steps : BodyContents → Option Expression → Steps (Option Text)
-joined_steps b None = Give (Some (folder b))
-joined_steps b (Some expression) = and_then (string_steps b expression) (λ text. Give (Some (path_join (folder b) text)))
+abbrev pub joined_steps : BodyContents → Option Expression → Interaction (Option Text)
+joined_steps b None = Return (Some (folder b))
+joined_steps b (Some expression) = and_then (string_steps b expression) (λ text. Return (Some (path_join (folder b) text)))
 
-abbrev pub directory_steps : BodyContents → Steps (Option Text)
-directory_steps b = cond (changes_directory b.recipe b.context.settings) (joined_steps b (directory_of b.recipe.attributes)) (Give None)
+abbrev pub directory_steps : BodyContents → Interaction (Option Text)
+directory_steps b = cond (changes_directory b.recipe b.context.settings) (joined_steps b (directory_of b.recipe.attributes)) (Return None)
 
 -- the format of the time, where it is shown: that of an attribute, or else that of the configuration
 abbrev pub configured_format : BodyContents → Text
 configured_format b = unwrap_or b.context.config.timestamp_format (codes "%H:%M:%S")
 
-abbrev pub said_format_steps : BodyContents → Option (Option Expression) → Steps (Option Text)
-said_format_steps b (Some (Some expression)) = and_then (string_steps b expression) (λ text. Give (Some text))
-said_format_steps b (Some None) = Give (Some (configured_format b))
-said_format_steps b None = Give (cond b.context.config.timestamp (Some (configured_format b)) None)
+abbrev pub said_format_steps : BodyContents → Option (Option Expression) → Interaction (Option Text)
+said_format_steps b (Some (Some expression)) = and_then (string_steps b expression) (λ text. Return (Some text))
+said_format_steps b (Some None) = Return (Some (configured_format b))
+said_format_steps b None = Return (cond b.context.config.timestamp (Some (configured_format b)) None)
 
-abbrev pub format_steps : BodyContents → Steps (Option Text)
+abbrev pub format_steps : BodyContents → Interaction (Option Text)
 format_steps b = said_format_steps b (timestamp_of b.recipe.attributes)
 
 -- both, one after the other
 abbrev pub prepared : Option Text → Option Text → Preparation
 prepared directory format = record { working_directory = directory; timestamp_format = format }
 
-abbrev pub prepare_steps : BodyContents → Steps Preparation
-prepare_steps b = and_then (directory_steps b) (λ directory. and_then (format_steps b) (λ format. Give (prepared directory format)))
+abbrev pub prepare_steps : BodyContents → Interaction Preparation
+prepare_steps b = and_then (directory_steps b) (λ directory. and_then (format_steps b) (λ format. Return (prepared directory format)))
 
 -- the time, where there is a format
-abbrev pub telling_steps : Text → Steps Text
-telling_steps format = Asks (ToHost (Timestamp format)) (text_or untimed)
+abbrev pub telling_steps : Text → Interaction Text
+telling_steps format = Ask (ToHost (Timestamp format)) (text_or untimed)
 
-abbrev pub time_steps : Option Text → Steps (Option Text)
-time_steps None = Give None
-time_steps (Some format) = and_then (telling_steps format) (λ time. Give (Some time))
+abbrev pub time_steps : Option Text → Interaction (Option Text)
+time_steps None = Return None
+time_steps (Some format) = and_then (telling_steps format) (λ time. Return (Some time))
 
 -- a text behind the time
 abbrev pub stamped : Text → Text → Text
 stamped time text = codes "[" ++ (time ++ (codes "] " ++ text))
 
 -- a line is shown
-abbrev pub show_steps : Text → Steps (Unit {0})
-show_steps line = Asks (ToHost (Show line)) (λ answer. Give tt)
+abbrev pub show_steps : Text → Interaction (Unit {0})
+show_steps line = Ask (ToHost (Show line)) (λ answer. Return tt)
 
 -- what programs have in their environment: what the layer says, and over it what the parameters put there
-abbrev pub changes_or : Answer → Steps (List EnvironmentChange)
-changes_or (Changed changes) = Give changes
+abbrev pub changes_or : Answer → Interaction (List EnvironmentChange)
+changes_or (Changed changes) = Return changes
 changes_or (Refused message) = Fail (Failed (unevaluated message))
 changes_or _ = Fail Memory
 
-abbrev pub environment_steps : BodyContents → Steps (List EnvironmentChange)
-environment_steps b = Asks (ToEvaluator (Environment b.context.dotenv b.scope b.context.settings b.context.unexports)) changes_or
+abbrev pub environment_steps : BodyContents → Interaction (List EnvironmentChange)
+environment_steps b = Ask (ToEvaluator (Environment b.context.dotenv b.scope b.context.settings b.context.unexports)) changes_or
 
 abbrev pub change_of : EnvironmentPair → EnvironmentChange
 change_of pair = record { name = pair.name; value = Some pair.value }
@@ -152,6 +152,6 @@ is_mute verbosity.Quiet = true
 is_mute _ = false
 
 -- what a result comes to
-abbrev pub given : {A : Type 0} → Result A RunError → Steps A
-given (Ok x) = Give x
+abbrev pub given : {A : Type 0} → Result A RunError → Interaction A
+given (Ok x) = Return x
 given (Err e) = Fail (Failed e)

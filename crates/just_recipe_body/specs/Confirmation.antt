@@ -10,7 +10,7 @@ use Rattle.just_errors.specs.declared.run_error.RunError.TheVariants as run
 use Rattle.just_names.specs.Texts.{Text}
 use Rattle.just_run_layers.specs.declared.host.Entry.TheVariants.{Confirm}
 use Rattle.just_run_layers.specs.Host.{Answer, Given, Refused}
-use Rattle.just_run_layers.specs.Steps.{Asks, Fail, Give, Steps, ToHost, and_then}
+use Rattle.just_run_layers.specs.Interactions.{Ask, Fail, Return, Interaction, ToHost, and_then}
 use Rattle.just_recipe_body.specs.Attributes.{first_said}
 use Rattle.just_recipe_body.specs.Body.{BodyContents, name_of, string_steps}
 
@@ -26,14 +26,14 @@ is_yes line = str_eq_ignore_ascii_case (trim line) (codes "y") || str_eq_ignore_
 abbrev pub unconfirmed : Text → RunError
 unconfirmed message = run.GetConfirmation (record { message = message })
 
-abbrev pub line_answered : Answer → Steps Bool
-line_answered (Given line) = Give (is_yes line)
+abbrev pub line_answered : Answer → Interaction Bool
+line_answered (Given line) = Return (is_yes line)
 line_answered (Refused message) = Fail (Failed (unconfirmed message))
 line_answered _ = Fail Memory
 
 -- a line is read after a prompt
-abbrev pub prompt_steps : Text → Steps Bool
-prompt_steps prompt = Asks (ToHost (Confirm prompt)) line_answered
+abbrev pub prompt_steps : Text → Interaction Bool
+prompt_steps prompt = Ask (ToHost (Confirm prompt)) line_answered
 
 -- the prompt where none is said, and one that is
 abbrev pub usual_prompt : Text → Text
@@ -42,11 +42,11 @@ usual_prompt name = codes "Run recipe `" ++ (name ++ codes "`? ")
 abbrev pub said_prompt : Text → Text
 said_prompt text = text ++ codes " "
 
-abbrev pub confirm_by : BodyContents → Option (Option Expression) → Steps Bool
-confirm_by b None = Give true
+abbrev pub confirm_by : BodyContents → Option (Option Expression) → Interaction Bool
+confirm_by b None = Return true
 confirm_by b (Some None) = prompt_steps (usual_prompt (name_of b))
 confirm_by b (Some (Some prompt)) = and_then (string_steps b prompt) (λ text. prompt_steps (said_prompt text))
 
 -- A recipe that wants no confirmation may run; another one where the line after its prompt says yes.
-abbrev pub confirm_steps : BodyContents → Steps Bool
+abbrev pub confirm_steps : BodyContents → Interaction Bool
 confirm_steps b = confirm_by b (first_said confirmation_in b.recipe.attributes)

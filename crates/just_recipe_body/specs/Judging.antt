@@ -11,12 +11,12 @@ use Rattle.just_names.specs.Texts.{Text}
 use Rattle.just_run_layers.specs.declared.run_answer.RunAnswer.{RunAnswer}
 use Rattle.just_run_layers.specs.declared.run_answer.Status.{Status}
 use Rattle.just_run_layers.specs.declared.run_answer.Status.TheVariants as status
-use Rattle.just_recipe_body.specs.declared.judging.Marks.{Marks}
-use Rattle.just_recipe_body.specs.declared.judging.Next.{Next}
-use Rattle.just_recipe_body.specs.declared.judging.Next.TheVariants.{Onward, Ended}
-use Rattle.just_recipe_body.specs.declared.judging.Program.{Program}
-use Rattle.just_recipe_body.specs.declared.judging.Program.TheVariants as program
-use Rattle.just_recipe_body.specs.declared.judging.Teller.{Teller}
+use Rattle.just_recipe_body.specs.declared.judgement.Marks.{Marks}
+use Rattle.just_recipe_body.specs.declared.judgement.Next.{Next}
+use Rattle.just_recipe_body.specs.declared.judgement.Next.TheVariants.{Onward, Ended}
+use Rattle.just_recipe_body.specs.declared.judgement.Program.{Program}
+use Rattle.just_recipe_body.specs.declared.judgement.Program.TheVariants as program
+use Rattle.just_recipe_body.specs.declared.judgement.Teller.{Teller}
 
 -- the sigils of a line
 abbrev pub is_guard : Sigil → Bool

@@ -5,7 +5,7 @@ ghost use Rattle.std.specs.Option.{option_copied};
 ghost use Rattle.just_parts.specs.Scopes.{attribute_expressions, of_attributes};
 ghost use Rattle.just_run_layers.specs.Covering.{IsCovered, module_of};
 ghost use Rattle.just_run_layers.specs.Host.{KeepsPromises};
-ghost use Rattle.just_run_layers.specs.Steps.{Took, both, kept_by};
+ghost use Rattle.just_run_layers.specs.Interactions.{HasTrace, both, log_of};
 ghost use Rattle.just_recipe_body.specs.Attributes.{first_said};
 ghost use Rattle.just_recipe_body.specs.Body.{contents_of};
 ghost use Rattle.just_recipe_body.specs.Confirmation as spec;
@@ -90,10 +90,10 @@ pub fn confirm<'a, 'run, 'src, S: Syntax, E: Evaluation, H: Host>(
     requires covered { All (IsCovered (module_of body.now.context.now) body.now.scope.now) (of_attributes attribute_expressions body.now.recipe.now) }
     ensures keeps { KeepsPromises (E.promised evaluation.old) (E.promised evaluation.new) }
     ensures keeps_host { KeepsPromises (H.promised host.old) (H.promised host.new) }
-    ensures took { let first = kept_by (H.entries host.old) (E.requests evaluation.old) in
-        let last = kept_by (H.entries host.new) (E.requests evaluation.new) in
+    ensures took { let first = log_of (H.entries host.old) (E.requests evaluation.old) in
+        let last = log_of (H.entries host.new) (E.requests evaluation.new) in
         let steps = spec.confirm_steps (contents_of (S.answers body.now.syntax.now) body.now) in
-        Took (both (E.promised evaluation.old) (H.promised host.old)) steps first last result }
+        HasTrace (both (E.promised evaluation.old) (H.promised host.old)) steps first last result }
 {
     match confirmation_of(body.recipe.attributes.as_slice()) {
         Some(Some(expression)) => {

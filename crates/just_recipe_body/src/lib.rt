@@ -4,4 +4,4 @@
 pub mod attributes;
 pub mod body;
 pub mod confirmation;
-pub mod judging;
+pub mod judgement;

@@ -23,7 +23,7 @@ use Rattle.just_ast_references.specs.Numbers.{with_numbers}
 use Rattle.just_name_resolution.specs.Numbers.{number_in}
 use Rattle.just_name_resolution.specs.declared.numbers.Numbers.{Numbers}
 use Rattle.just_parts.specs.Groups.{ends_group}
-use Rattle.just_recipe_names.specs.declared.numbering.Meanings.{Meanings}
+use Rattle.just_recipe_names.specs.declared.numbers.Meanings.{Meanings}
 use Rattle.just_parts.specs.Syntax.{SyntaxAnswers}
 use Rattle.just_recipe.specs.Script.{is_script}
 use Rattle.just_recipe.specs.declared.dependency.DependencyArgument.{DependencyArgument}

@@ -112,7 +112,8 @@ pub fn numbered_body<'a, 'src, S: Syntax>(
 ) -> Result<Sequence<Line<'src>>, AllocError>
     ensures { let answers = S.answers numbers.now.syntax.now in
         let by = looked_up answers numbers.now in
-        let lines = if is_script recipe.now settings.now then map (line_by by) recipe.now.body else shell_lines_by by answers settings.now true recipe.now.body in
+        let lines = if is_script recipe.now settings.now then map (line_by by) recipe.now.body
+        else shell_lines_by by answers settings.now true recipe.now.body in
         IfOk result (λ made. made ≡ lines) }
 {
     if recipe.is_script(settings) {

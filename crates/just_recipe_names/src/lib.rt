@@ -3,11 +3,11 @@
 
 mod attributes;
 mod body;
-mod checking;
-mod hiding;
+mod hidden_names;
 mod lines;
-mod numbering;
+mod numbers;
+mod recipe_checks;
 pub mod steps;
 
-pub use checking::check_recipe;
-pub use numbering::{Meanings, numbered_recipe};
+pub use numbers::{Meanings, numbered_recipe};
+pub use recipe_checks::check_recipe;

@@ -26,7 +26,7 @@ use Rattle.just_recipe.specs.declared.dependency.UnresolvedDependency.{Unresolve
 use Rattle.just_recipe.specs.declared.recipe.Recipe.{Recipe}
 use Rattle.just_recipe_names.specs.Numbered.{numbered_recipe}
 use Rattle.just_recipe_needs.specs.Needed.{NeedsUnder}
-use Rattle.just_recipe_resolver.specs.declared.resolving.Resolving.{Resolving}
+use Rattle.just_recipe_resolver.specs.declared.resolution.Resolving.{Resolving}
 use Rattle.just_recipe_values.specs.Valued.{with_values}
 
 -- What recipes of a module are resolved on: the numbers of its variables, these and its functions, the values of its constants, whether the variable of a number is overridden, and its settings.
@@ -61,11 +61,11 @@ basis_by resolver constants settings = record {
 }
 
 -- whatever the doc, the helps and the patterns of a recipe read has a value
-abbrev pub IsCovered : Basis → Recipe UnresolvedDependency → Type 0
-IsCovered basis r = (e : Expression) → Contains (recipe_expressions r) e → Covers (sources basis.assignments basis.functions) basis.constants e
+abbrev pub IsRecipeCovered : Basis → Recipe UnresolvedDependency → Type 0
+IsRecipeCovered basis r = (e : Expression) → Contains (recipe_expressions r) e → Covers (sources basis.assignments basis.functions) basis.constants e
 
-abbrev pub AreCovered : Basis → List (Recipe UnresolvedDependency) → Type 0
-AreCovered basis rs = (i : ℕ) → i < length rs → IsCovered basis (recipe_at rs i)
+abbrev pub AreRecipesCovered : Basis → List (Recipe UnresolvedDependency) → Type 0
+AreRecipesCovered basis rs = (i : ℕ) → i < length rs → IsRecipeCovered basis (recipe_at rs i)
 
 module _ (answers : SyntaxAnswers) (evaluator : Evaluator) (basis : Basis) where
   -- the value of an expression among the constants

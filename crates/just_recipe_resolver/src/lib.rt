@@ -3,9 +3,9 @@
 
 mod keys;
 pub mod recipe_resolver;
-mod resolving;
+mod resolution;
 pub mod unresolved_recipe;
 
 pub use keys::recipe_keys;
 pub use recipe_resolver::RecipeResolver;
-pub use resolving::{Resolving, resolve_kept};
+pub use resolution::{Resolving, resolve_kept};

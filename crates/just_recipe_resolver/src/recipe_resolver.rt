@@ -12,11 +12,11 @@ ghost use Rattle.just_module_contents.specs.Standing.{InStanding};
 ghost use Rattle.just_module_recipes.specs.Completed.{TellsLinks};
 ghost use Rattle.just_module_recipes.specs.Linked.{AreSettled};
 ghost use Rattle.just_module_recipes.specs.Links.{BreaksLinks, Stands, around};
-ghost use Rattle.just_recipe_resolver.specs.Basis.{AreCovered, BreaksOn, TellsOn, basis_by, basis_of, completion_on};
+ghost use Rattle.just_recipe_resolver.specs.Basis.{AreRecipesCovered, BreaksOn, TellsOn, basis_by, basis_of, completion_on};
 ghost use Rattle.just_recipe_resolver.specs.Resolved.{AreResolved, kept_in};
 
 use crate::keys::recipe_keys;
-use crate::resolving::{Resolving, resolve_kept};
+use crate::resolution::{Resolving, resolve_kept};
 use just_data::BorrowedText;
 use just_justfile::{Disabled, Justfile, RecipeKey};
 use just_module_contents::definitions::Definitions;
@@ -115,7 +115,7 @@ impl RecipeResolver {
         requires apart { AreNew recipes (values_of unresolved) }
         requires ordered { AreOrdered modules.now }
         requires settled { AreSettled (around absent_modules.now modules.now recipes) }
-        requires covered { AreCovered (basis_by variable_resolver.now constants.now settings.now) (values_of unresolved) }
+        requires covered { AreRecipesCovered (basis_by variable_resolver.now constants.now settings.now) (values_of unresolved) }
         ensures kept { let it = around absent_modules.now modules.now recipes.entry in
             IfOk result (λ _. Keeps (BreaksLinks settings.now.lists (kept_in unresolved.entry) it)) }
         ensures own { let basis = basis_by variable_resolver.now constants.now settings.now in

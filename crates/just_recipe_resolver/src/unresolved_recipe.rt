@@ -5,11 +5,11 @@ ghost use Rattle.just_errors.specs.Causes.{Keeps, Reports};
 ghost use Rattle.just_module_contents.specs.Recipes.{lent, name_of};
 ghost use Rattle.just_module_contents.specs.Resolved.{path_to};
 ghost use Rattle.just_recipe.specs.Resolved.{resolved};
-ghost use Rattle.just_recipe_resolver.specs.Basis.{BreaksOn, IsCovered, TellsOn, basis_by, basis_of, completion_on};
+ghost use Rattle.just_recipe_resolver.specs.Basis.{BreaksOn, IsRecipeCovered, TellsOn, basis_by, basis_of, completion_on};
 ghost use Rattle.just_recipe_resolver.specs.Resolved.{GivesWrongly, IsCompleted, IsResolvedTo, link_to, links_to};
 
 use crate::recipe_resolver::resolving_by;
-use crate::resolving::Resolving;
+use crate::resolution::Resolving;
 use just_data::Sequence;
 use just_module_recipes::{Completing, check_arguments, complete};
 use just_module_variables::VariableResolver;
@@ -94,7 +94,7 @@ fn completed<'m, 'src, S: Syntax, E: ConstantEvaluation>(
     resolving: Resolving<'m, 'src, S, E>,
     recipe: &UnresolvedRecipe<'src>,
 ) -> Result<UnresolvedRecipe<'src>, Error<'src>>
-    requires { IsCovered (basis_of resolving) recipe.now }
+    requires { IsRecipeCovered (basis_of resolving) recipe.now }
     ensures kept { let by = resolving.entry in
         let breaks = BreaksOn (S.answers by.meanings.syntax.now) (E.answers by.among.evaluation.now) (basis_of by) in
         IfOk result (λ _. Keeps (breaks recipe.now)) }
@@ -148,7 +148,7 @@ fn resolve_over<'a, 'm, 'src, S: Syntax, E: ConstantEvaluation>(
     beside: &Beside<'src, 'a>,
 ) -> Result<Recipe<'src>, Error<'src>>
     requires count { length beside.now.recipes.items ≡ length recipe.now.dependencies }
-    requires covered { IsCovered (basis_of resolving) recipe.now }
+    requires covered { IsRecipeCovered (basis_of resolving) recipe.now }
     ensures given { let lists = resolving.entry.meanings.settings.now.lists in
         IfOk result (λ _. Keeps (GivesWrongly lists recipe.now.dependencies (lent beside.now.recipes.items))) }
     ensures own { let by = resolving.entry in
@@ -189,7 +189,7 @@ pub fn resolve<'a, 'm, 'v, 'src, S: Syntax, E: ConstantEvaluation>(
     variable_resolver: &'m VariableResolver<'v, 'src, S>,
 ) -> Result<Recipe<'src>, Error<'src>>
     requires count { length resolved.items ≡ length recipe.dependencies }
-    requires covered { IsCovered (basis_by variable_resolver.now constants.now settings.now) recipe }
+    requires covered { IsRecipeCovered (basis_by variable_resolver.now constants.now settings.now) recipe }
     ensures given { IfOk result (λ _. Keeps (GivesWrongly settings.now.lists recipe.entry.dependencies (lent resolved.entry.items))) }
     ensures own { let basis = basis_by variable_resolver.now constants.now settings.now in
         IfOk result (λ _. Keeps (BreaksOn (S.answers syntax.now) (E.answers evaluation.now) basis recipe.entry)) }

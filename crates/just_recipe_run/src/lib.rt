@@ -2,6 +2,6 @@
 #![tactic(auto)]
 
 mod recipe;
-mod running;
+mod run;
 
 pub use recipe::RunRecipe;

@@ -5,7 +5,7 @@ ghost use Rattle.just_recipe_run.specs.Calls.{says_parallel, says_private};
 ghost use Rattle.just_recipe.specs.declared.dependency.Dependency.{Dependency};
 ghost use Rattle.just_recipe.specs.declared.recipe.Recipe.{Recipe};
 
-use crate::running::run_recipe;
+use crate::run::run_recipe;
 use just_data::{Sequence, Text};
 use just_parts::Recipe;
 use just_parts::layers::{Attribute, Halt, NamedAttribute, Scope, Settings, Syntax};
@@ -41,7 +41,7 @@ pub trait RunRecipe<'src> {
     ghost use Rattle.just_run_layers.specs.Evaluation.{contents_of};
     ghost use Rattle.just_run_layers.specs.Host.{KeepsPromises};
     ghost use Rattle.just_run_layers.specs.LineTexts.{AgreesWith};
-    ghost use Rattle.just_run_layers.specs.Steps.{Took, both, kept_by};
+    ghost use Rattle.just_run_layers.specs.Interactions.{HasTrace, both, log_of};
     ghost use Rattle.just_recipe_body.specs.Attributes.{changes_directory, takes_positional_arguments};
     ghost use Rattle.just_recipe_body.specs.Confirmation.{confirm_steps};
     ghost use Rattle.just_recipe_body.specs.Covering.{IsBodyCovered, IsLineCovered};
@@ -77,11 +77,11 @@ pub trait RunRecipe<'src> {
             covered (module_of context.now) scope.now (recipe_of self.now) }
         ensures keeps { KeepsPromises (E.promised evaluation.old) (E.promised evaluation.new) }
         ensures keeps_host { KeepsPromises (H.promised host.old) (H.promised host.new) }
-        ensures took { let first = kept_by (H.entries host.old) (E.requests evaluation.old) in
-            let last = kept_by (H.entries host.new) (E.requests evaluation.new) in
+        ensures took { let first = log_of (H.entries host.old) (E.requests evaluation.old) in
+            let last = log_of (H.entries host.new) (E.requests evaluation.new) in
             let by = body_by (S.answers syntax.now) (contents_of context.now) (recipe_of self.now) in
             let steps = recipe_steps (by environment.now is_dependency positional.now scope.now) in
-            Took (both (E.promised evaluation.old) (H.promised host.old)) steps first last result };
+            HasTrace (both (E.promised evaluation.old) (H.promised host.old)) steps first last result };
 
     /// Runs the recipe as a script, likewise, without what is shown before its body: its lines are evaluated one by one, and
     /// handed to what runs it, as its attribute, its first line or the settings name it. The error is that of the first step
@@ -102,11 +102,11 @@ pub trait RunRecipe<'src> {
         requires lines { All (IsLineCovered (module_of context.now) scope.now) (recipe_of self.now).body }
         ensures keeps { KeepsPromises (E.promised evaluation.old) (E.promised evaluation.new) }
         ensures keeps_host { KeepsPromises (H.promised host.old) (H.promised host.new) }
-        ensures took { let first = kept_by (H.entries host.old) (E.requests evaluation.old) in
-            let last = kept_by (H.entries host.new) (E.requests evaluation.new) in
+        ensures took { let first = log_of (H.entries host.old) (E.requests evaluation.old) in
+            let last = log_of (H.entries host.new) (E.requests evaluation.new) in
             let by = body_by (S.answers syntax.now) (contents_of context.now) (recipe_of self.now) in
             let steps = script_steps (by environment.now is_dependency positional.now scope.now) in
-            Took (both (E.promised evaluation.old) (H.promised host.old)) steps first last result };
+            HasTrace (both (E.promised evaluation.old) (H.promised host.old)) steps first last result };
 
     /// Whether the recipe may run: one that wants no confirmation may, and another one where the line that the host reads
     /// after its prompt is `y` or `yes`, whatever its case and the white space around it. The prompt is the text of its
@@ -125,11 +125,11 @@ pub trait RunRecipe<'src> {
         requires { All (IsCovered (module_of context.now) scope.now) (of_attributes attribute_expressions (recipe_of self.now)) }
         ensures keeps { KeepsPromises (E.promised evaluation.old) (E.promised evaluation.new) }
         ensures keeps_host { KeepsPromises (H.promised host.old) (H.promised host.new) }
-        ensures took { let first = kept_by (H.entries host.old) (E.requests evaluation.old) in
-            let last = kept_by (H.entries host.new) (E.requests evaluation.new) in
+        ensures took { let first = log_of (H.entries host.old) (E.requests evaluation.old) in
+            let last = log_of (H.entries host.new) (E.requests evaluation.new) in
             let by = body_by (S.answers syntax.now) (contents_of context.now) (recipe_of self.now) in
             let steps = confirm_steps (by [] is_dependency [] scope.now) in
-            Took (both (E.promised evaluation.old) (H.promised host.old)) steps first last result };
+            HasTrace (both (E.promised evaluation.old) (H.promised host.old)) steps first last result };
 
     /// Whether the recipe runs in the folder of its module, or in one that it names.
     fn change_directory(&self, settings: &Settings) -> bool

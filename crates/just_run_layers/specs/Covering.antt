@@ -32,14 +32,14 @@ abbrev pub module_of : Context → Known
 module_of context = sources context.assignments.now context.functions.now
 
 -- Each variable that an expression reads is bound, where some names are hidden.
-abbrev pub Covers : Known → (Text → Bool) → Scope → Expression → Type 0
-Covers m hidden scope e = (name : Text) (a : Assignment) → Reads m hidden e name → find name m.assignments ≡ Some a → binds scope a.number ≡ true
+abbrev pub BindsRead : Known → (Text → Bool) → Scope → Expression → Type 0
+BindsRead m hidden scope e = (name : Text) (a : Assignment) → Reads m hidden e name → find name m.assignments ≡ Some a → binds scope a.number ≡ true
 
 -- An expression may be evaluated in a scope: names are hidden that the scope binds too, and each variable that is read is bound.
 pub record IsCovered (m : Known) (scope : Scope) (e : Expression) : Type 0 where
   pub hidden : Text → Bool
   pub bound : (name : Text) → hidden name ≡ true → IsSome (values_of scope name)
-  pub covers : Covers m hidden scope e
+  pub covers : BindsRead m hidden scope e
 
 -- the expressions of a line
 abbrev pub fragment_expressions : Fragment → List Expression
@@ -58,13 +58,13 @@ abbrev pub hidden_after : (Text → Bool) → Parameter → Text → Bool
 hidden_after hidden p name = hidden name || bytes_eq (text_of_name p.name) name
 
 -- Parameters may be evaluated in a scope: what the values of each read is bound, where the names of those before it are hidden.
-abbrev pub AreCovered : Known → Scope → (Text → Bool) → List Parameter → Type 0
-AreCovered m scope hidden [] = Unit {0}
-AreCovered m scope hidden (p ∷ ps) = IfSome p.default (Covers m hidden scope) × (IfSome p.value (Covers m hidden scope) × AreCovered m scope (hidden_after hidden p) ps)
+abbrev pub AreParametersCovered : Known → Scope → (Text → Bool) → List Parameter → Type 0
+AreParametersCovered m scope hidden [] = Unit {0}
+AreParametersCovered m scope hidden (p ∷ ps) = IfSome p.default (BindsRead m hidden scope) × (IfSome p.value (BindsRead m hidden scope) × AreParametersCovered m scope (hidden_after hidden p) ps)
 
 -- the order that a module hands over is one in which its variables are evaluated
-abbrev pub HasOrder : Context → Type 0
-HasOrder context = IsEvaluationOrder (module_of context) (texts_of_names context.evaluation_order.now)
+abbrev pub HasEvaluationOrder : Context → Type 0
+HasEvaluationOrder context = IsEvaluationOrder (module_of context) (texts_of_names context.evaluation_order.now)
 
 -- the set of a question for variables is closed: with a variable that is not overridden it has what that reads
 abbrev pub IsClosedIn : Context → NumberSet → Type 0

@@ -2,4 +2,4 @@ pub mod Covering
 pub mod Evaluation
 pub mod Host
 pub mod LineTexts
-pub mod Steps
+pub mod Interactions

@@ -7,7 +7,7 @@ ghost use Rattle.just_ast_expressions.specs.declared.settings.Settings.{Settings
 ghost use Rattle.just_ast_expressions.specs.declared.sigil.Sigil.{Sigil};
 ghost use Rattle.just_parts.specs.Evaluator.{Binds};
 ghost use Rattle.just_parts.specs.Known.{none_hidden};
-ghost use Rattle.just_run_layers.specs.Covering.{AreCovered, BindsParameters, HasOrder, IsClosedIn, IsCovered, line_expressions, module_of, wanted_in};
+ghost use Rattle.just_run_layers.specs.Covering.{AreParametersCovered, BindsParameters, HasEvaluationOrder, IsClosedIn, IsCovered, line_expressions, module_of, wanted_in};
 ghost use Rattle.just_run_layers.specs.Evaluation.{Inquiry, ScopeRequest, contents_of, requested, set_of, surroundings};
 ghost use Rattle.just_run_layers.specs.Host.{Answer, Answers, KeepsPromises, answered, bound_to, changed, given, scoped, valued};
 ghost use Rattle.just_run_layers.specs.LineTexts.{BeginsPlain, EndsWithBackslash};
@@ -51,7 +51,7 @@ pub trait Evaluation: ConstantEvaluation {
         parent: &Scope<'src>,
         set: Option<&Shared<HashSet<Number>>>,
     ) -> Result<Scope<'src>, Refusal>
-        requires order { HasOrder context.now }
+        requires order { HasEvaluationOrder context.now }
         requires closed { IsClosedIn context.now (set_of set) }
         ensures binds { IfOk result (Binds context.now.assignments.now (wanted_in context.now (set_of set.entry))) }
         ensures answers { let question = Inquiry.Assignments (contents_of context.now) parent.now (set_of set.entry) in
@@ -71,7 +71,7 @@ pub trait Evaluation: ConstantEvaluation {
         parameters: &[Parameter<'src>],
         recipe: &str,
     ) -> Result<Held<'src>, Refusal>
-        requires covered { AreCovered (module_of context.now) scope.now none_hidden parameters.now }
+        requires covered { AreParametersCovered (module_of context.now) scope.now none_hidden parameters.now }
         ensures binds { IfOk result (λ bound. BindsParameters parameters.now scope.now bound.scope) }
         ensures answers { let question = Inquiry.Parameters (contents_of context.now) scope.now groups.now is_dependency parameters.now recipe.now in
             Answers (promised self.old question) (answered bound_to result) }

@@ -33,10 +33,10 @@ use Rattle.just_run_layers.specs.Evaluation.{NumberSet}
 use Rattle.just_table.specs.Entries.{find}
 use Rattle.just_scopes.proofs.Needed.{found-needed, needed-some, numbers-apart, reads-some}
 use Rattle.just_scopes.proofs.Standing.{one-order, placed-stand, standing-placed}
-use Rattle.just_scopes.specs.Need.{AreUsed, IsNeeded, IsToBeBound, RunsIn, read}
-use Rattle.just_scopes.specs.Open.{AreOpen, IsServedBy, Whose, whose_opened, whose_placed}
+use Rattle.just_scopes.specs.Need.{AreUsed, IsNeededVariable, IsToBeBound, RunsInModule, read}
+use Rattle.just_scopes.specs.Open.{AreOpenModules, IsServedBy, Whose, whose_opened, whose_placed}
 use Rattle.just_scopes.specs.Opening.{Handed, Opened}
-use Rattle.just_scopes.specs.Opens.{CanOpen, IsOpenedBy, IsSetFor, Overrides, all, some, wanted_from}
+use Rattle.just_scopes.specs.Opens.{CanOpen, IsOpenedBy, IsSetFor, NumberOverrides, all, some, wanted_from}
 use Rattle.just_scopes.specs.Preorder.{IsPreorder, Placed}
 
 -- a value that a scope has is that of a binding of its name
@@ -66,11 +66,11 @@ module _ (answers : SyntaxAnswers) (root : Justfile) (recipes : List (Recipe Dep
         ∙ (found-needed answers root recipes tops used run bare are j stands set found v.0.number).1 (record { name = name; assigned = v.0; is = v.1; number = refl; there = n })),
   )
     where
-      there : (o : Option Assignment) → find name (out-Justfile j).assignments ≡ o → option_map_or (λ (a : Assignment). set a.number) o false ≡ true → IsNeeded answers recipes tops j name
+      there : (o : Option Assignment) → find name (out-Justfile j).assignments ≡ o → option_map_or (λ (a : Assignment). set a.number) o false ≡ true → IsNeededVariable answers recipes tops j name
       there None is h = cc
       there (Some a) is h =
           let i = (found-needed answers root recipes tops used run bare are j stands set found a.number).0 h in
-          subst (IsNeeded answers recipes tops j) (run.numbers j j i.name name i.assigned a stands stands i.is is i.number).1 i.there
+          subst (IsNeededVariable answers recipes tops j) (run.numbers j j i.name name i.assigned a stands stands i.is is i.number).1 i.there
   wanted-bound {j = j} stands all name = (
     (λ h. some-of (find name (out-Justfile j).assignments) h),
     (λ s. let v = the_value (find name (out-Justfile j).assignments) s in ap (λ o. option_map_or (λ (a : Assignment). true) o false) v.1),
@@ -116,7 +116,7 @@ module _ (answers : SyntaxAnswers) (root : Justfile) (recipes : List (Recipe Dep
         ((λ s. w.0 (sym (b.binds.exactly name) ∙ s)), (λ t. b.binds.exactly name ∙ w.1 t))
 
     -- what a recipe reads to which tasks lead is to be bound
-    to-bind : (lazy : Bool) (j : Justfile) (place : ℕ) (r : Recipe Dependency) → RunsIn recipes tops j place r → (s : Scoped) → Contains (scopes_of arguments_of answers (out-Justfile j).settings r) s →
+    to-bind : (lazy : Bool) (j : Justfile) (place : ℕ) (r : Recipe Dependency) → RunsInModule recipes tops j place r → (s : Scoped) → Contains (scopes_of arguments_of answers (out-Justfile j).settings r) s →
         (name : Text) → Reads (known_of j) s.hidden s.expression name → IsToBeBound lazy answers recipes tops j name
     to-bind true j place r runs s c name reads = starts (read place r runs (record { from = s; there = c; reads = reads }))
     to-bind false j place r runs s c name reads = reads-some reads
@@ -125,7 +125,7 @@ module _ (answers : SyntaxAnswers) (root : Justfile) (recipes : List (Recipe Dep
     served-all place r led at o c path =
         let b = All-contains (IsOpenedBy used handed) opened o bound c in
         let scopes : List Scoped = scopes_of arguments_of answers (out-Justfile o.justfile).settings r in
-        let runs : RunsIn recipes tops o.justfile place r = record { led = led; there = at; path = path } in
+        let runs : RunsInModule recipes tops o.justfile place r = record { led = led; there = at; path = path } in
         All-weaker (Contains scopes) (IsRead (known_of o.justfile) o.scope)
         (λ s i. read-bound o.justfile o.lazy b.set o.scope (opened-stands o c) b.is_set b.binds s (to-bind o.lazy o.justfile place r runs s i)) scopes (All-contains_itself scopes)
 
@@ -135,7 +135,7 @@ module _ (answers : SyntaxAnswers) (root : Justfile) (recipes : List (Recipe Dep
         let o = stands-opened p.0 p.1 in
         (o.0, o.1, p.2 ∙ ap (λ j. Some (out-Justfile j).module_path) (sym o.2))
 
-    pub are-open : AreOpen answers root recipes tops opened
+    pub are-open : AreOpenModules answers root recipes tops opened
     are-open = record {
       modules = λ qs other. whose ∙ ap (map whose_placed) (one-order root ps qs order other);
       exactly = bound-exactly;
@@ -144,7 +144,7 @@ module _ (answers : SyntaxAnswers) (root : Justfile) (recipes : List (Recipe Dep
     }
 
 -- each module that stands in a root that can run may be opened
-pub can-open : {answers : SyntaxAnswers} {root : Justfile} {recipes : List (Recipe Dependency)} (overrides : Overrides) → CanRun answers root recipes → HoldsOverridden root overrides → (j : Justfile) → StandsIn root j → CanOpen (has_number overrides) j
+pub can-open : {answers : SyntaxAnswers} {root : Justfile} {recipes : List (Recipe Dependency)} (overrides : NumberOverrides) → CanRun answers root recipes → HoldsOverridden root overrides → (j : Justfile) → StandsIn root j → CanOpen (has_number overrides) j
 can-open {answers} {root} {recipes} overrides run held j stands = record { ordered = run.ordered j stands; apart = numbers-apart answers root recipes run j stands; held = λ n h. held j n stands h }
 
 pub if-both : {A E : Type 0} {P Q R : A → Type 0} (r : Result A E) → ((x : A) → P x → Q x → R x) → IfOk r P → IfOk r Q → IfOk r R

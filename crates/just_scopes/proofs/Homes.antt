@@ -1,8 +1,8 @@
--- Recipes are at home in open modules.
+-- Recipes have their module's scope in open modules.
 use Rattle.std.proofs.Common.{◌≡◌, ◌∙◌, ◌&&◌, Bool, true, false, cond, List, [], ◌∷◌, Option, Some, None, IsSome, refl, sym, ap, subst, inl, inr}
 use Rattle.std.specs.List.{All}
 use Rattle.std.specs.Option.{option_map, option_or}
-use Rattle.just_execution.specs.Homes.{AreHome, IsRead, Modules, arguments_of, module_at}
+use Rattle.just_execution.specs.Homes.{AllHaveModuleScope, IsRead, Modules, arguments_of, module_at}
 use Rattle.just_execution.specs.Scene.{ModuleContents, Scene, contents_found, contents_of, running}
 use Rattle.just_execution.specs.Scene as scenes
 use Rattle.just_execution.specs.declared.scopes.ModuleScope.{ModuleScope}
@@ -20,7 +20,7 @@ use Rattle.just_paths.specs.declared.modulepath.Modulepath.{Modulepath}
 use Rattle.just_recipe.specs.declared.dependency.Dependency.{Dependency}
 use Rattle.just_recipe.specs.declared.recipe.Recipe.{Recipe}
 use Rattle.just_scopes.proofs.Under.{has_path}
-use Rattle.just_scopes.specs.Open.{AreOpen}
+use Rattle.just_scopes.specs.Open.{AreOpenModules}
 use Rattle.just_scopes.specs.Opening.{Front, Handed, Opened, contents_in, opened_at, opened_under, scene_of}
 use Rattle.just_scopes.specs.Scoped.{AreModulesOf}
 
@@ -69,8 +69,8 @@ own-path : (p : Modulepath) → path_eq.ghosts.eq p p ≡ true
 own-path p = first-of (path_eq.ghosts.eq p p) _ ((key_same (p, []) (p, [])).1 refl)
 
 module _ (answers : SyntaxAnswers) (root : Justfile) (recipes : List (Recipe Dependency)) (tops : List Task) (handed : Handed) (opened : List Opened) (modules : Modules)
-    (are : AreOpen answers root recipes tops opened) (under : AreModulesOf handed opened modules) where
-  pub are-home : AreHome answers modules recipes tops
+    (are : AreOpenModules answers root recipes tops opened) (under : AreModulesOf handed opened modules) where
+  pub are-home : AllHaveModuleScope answers modules recipes tops
   are-home place r led at =
       let first = are.placed place r led at in
       let path : Modulepath = (out-Justfile first.0.justfile).module_path in
@@ -94,5 +94,5 @@ module _ (front : Front) (opened : List Opened) (modules : Modules) (under : Are
   same-under None = refl
   same-under (Some path) = under path
 
-  pub same-scene : (recipes : List (Recipe Dependency)) → scenes.scene_of front.syntax modules (running front.handed.config.no_dependencies recipes) ≡ scene_of front recipes opened
+  pub same-scene : (recipes : List (Recipe Dependency)) → scenes.scene_with front.syntax modules (running front.handed.config.no_dependencies recipes) ≡ scene_of front recipes opened
   same-scene recipes = λ i. record { syntax = front.syntax; recipes = running front.handed.config.no_dependencies recipes; modules = λ path. same-under path i }

@@ -24,7 +24,7 @@ use Rattle.just_recipe.specs.declared.dependency.Dependency.{Dependency}
 use Rattle.just_recipe.specs.declared.recipe.Recipe.{Recipe}
 use Rattle.just_table.specs.Entries.{find}
 use Rattle.just_scopes.proofs.OwnPaths.{own_paths}
-use Rattle.just_scopes.specs.Need.{AreNeeds, AreUsed, IsFound, IsNeeded, IsStart, RunsIn, Sets, Starts, chosen, is_chosen, read}
+use Rattle.just_scopes.specs.Need.{AreNeeds, AreUsed, IsFound, IsNeededVariable, IsNeededAtOnce, RunsInModule, NumberSets, NeedsAtOnce, chosen, is_chosen, read}
 
 -- what is read is a variable
 pub reads-some : {m : Known} {hidden : Text → Bool} {e : Expression} {name : Text} → Reads m hidden e name → IsSome (find name m.assignments)
@@ -76,7 +76,7 @@ numbers-apart answers root recipes run j stands x y a b is there same = (run.num
 module _ (answers : SyntaxAnswers) (root : Justfile) (recipes : List (Recipe Dependency)) (tops : List Task) (used : Number → Bool)
     (run : CanRun answers root recipes) (bare : TellsBareLines answers) (are : AreUsed recipes tops used) (j : Justfile) (stands : StandsIn root j) where
   -- a number of a recipe that is that of a variable of this module is one of this module's recipe
-  from-used : (name : Text) (a : Assignment) → find name (out-Justfile j).assignments ≡ Some a → used a.number ≡ true → IsNeeded answers recipes tops j name
+  from-used : (name : Text) (a : Assignment) → find name (out-Justfile j).assignments ≡ Some a → used a.number ≡ true → IsNeededVariable answers recipes tops j name
   from-used name a is u =
       let r = (are a.number).0 u in
       let p = All-got (IsPlaced root) recipes r.place r.recipe run.rooted.placed r.at in
@@ -85,16 +85,16 @@ module _ (answers : SyntaxAnswers) (root : Justfile) (recipes : List (Recipe Dep
       let same = run.numbers p.0 j n.name name n.assigned a p.1 stands n.is is n.number in
       let own : p.0 ≡ j = own_paths recipes root p.0 j run.rooted.closed p.1 stands same.0 in
       let from : NeedsIn j (IsReadBy answers j r.recipe) name = subst (NeedsIn j (IsReadBy answers j r.recipe)) same.1 (subst (λ (q : Justfile). NeedsIn q (IsReadBy answers q r.recipe) n.name) own n.there) in
-      let runs : RunsIn recipes tops j r.place r.recipe = record { led = r.led; there = r.at; path = p.2 ∙ ap (λ path. Some path) same.0 } in
+      let runs : RunsInModule recipes tops j r.place r.recipe = record { led = r.led; there = r.at; path = p.2 ∙ ap (λ path. Some path) same.0 } in
       need-flat (λ x s. starts (read r.place r.recipe runs s)) name from
 
-  start-needed : (name : Text) → IsStart used j name → IsNeeded answers recipes tops j name
+  start-needed : (name : Text) → IsNeededAtOnce used j name → IsNeededVariable answers recipes tops j name
   start-needed name s = elim (or_cases (used s.assigned.number) (is_chosen (out-Justfile j).settings s.assigned) s.starts) [
     | inl u ↦ from-used name s.assigned s.is u
     | inr c ↦ starts (chosen s.assigned s.is c)
   ]
 
-  needed-start : (name : Text) → Starts answers recipes tops j name → NeedsIn j (IsStart used j) name
+  needed-start : (name : Text) → NeedsAtOnce answers recipes tops j name → NeedsIn j (IsNeededAtOnce used j) name
   needed-start name (chosen a is c) = starts (record { assigned = a; is = is; starts = or_right (used a.number) (is_chosen (out-Justfile j).settings a) c })
   needed-start name (read place r runs reads) =
       let v = the_value (find name (out-Justfile j).assignments) (reads-some reads.reads) in
@@ -104,13 +104,13 @@ module _ (answers : SyntaxAnswers) (root : Justfile) (recipes : List (Recipe Dep
       starts (record { assigned = v.0; is = v.1; starts = or_left (used v.0.number) (is_chosen (out-Justfile j).settings v.0) u })
 
   -- so a set that is found has what is needed, and the other way round
-  pub found-needed : (set : Number → Bool) → IsFound used j set → (n : Number) → (set n ≡ true) ↔ IsNumberIn (known_of j) (IsNeeded answers recipes tops j) n
+  pub found-needed : (set : Number → Bool) → IsFound used j set → (n : Number) → (set n ≡ true) ↔ IsNumberIn (known_of j) (IsNeededVariable answers recipes tops j) n
   found-needed set found n = (
     (λ h. number-flat (need-flat start-needed) n ((found n).0 h)),
     (λ i. (found n).1 (number-flat (need-flat needed-start) n i)),
   )
 
-  pub needed-found : (set : Number → Bool) → ((n : Number) → (set n ≡ true) ↔ IsNumberIn (known_of j) (IsNeeded answers recipes tops j) n) → IsFound used j set
+  pub needed-found : (set : Number → Bool) → ((n : Number) → (set n ≡ true) ↔ IsNumberIn (known_of j) (IsNeededVariable answers recipes tops j) n) → IsFound used j set
   needed-found set is n = (
     (λ h. number-flat (need-flat needed-start) n ((is n).0 h)),
     (λ i. (is n).1 (number-flat (need-flat start-needed) n i)),
@@ -118,11 +118,11 @@ module _ (answers : SyntaxAnswers) (root : Justfile) (recipes : List (Recipe Dep
 
 -- there is one collection of sets of what is needed
 pub sets-found : (answers : SyntaxAnswers) (root : Justfile) (recipes : List (Recipe Dependency)) (tops : List Task) (used : Number → Bool) → CanRun answers root recipes → TellsBareLines answers → AreUsed recipes tops used →
-    (sets : Sets) → AreNeeds answers root recipes tops sets → (j : Justfile) → StandsIn root j → IsFound used j (sets j)
+    (sets : NumberSets) → AreNeeds answers root recipes tops sets → (j : Justfile) → StandsIn root j → IsFound used j (sets j)
 sets-found answers root recipes tops used run bare are sets needs j stands = needed-found answers root recipes tops used run bare are j stands (sets j) (needs j stands)
 
 -- whatever is needed is a variable
-pub needed-some : {answers : SyntaxAnswers} {recipes : List (Recipe Dependency)} {tops : List Task} {j : Justfile} (name : Text) → IsNeeded answers recipes tops j name → IsSome (find name (out-Justfile j).assignments)
+pub needed-some : {answers : SyntaxAnswers} {recipes : List (Recipe Dependency)} {tops : List Task} {j : Justfile} (name : Text) → IsNeededVariable answers recipes tops j name → IsSome (find name (out-Justfile j).assignments)
 needed-some name (starts (chosen a is c)) = ap is_some is
 needed-some name (starts (read place r runs reads)) = reads-some reads.reads
 needed-some name (onward n free reads) = reads-some reads.reads

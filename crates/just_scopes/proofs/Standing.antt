@@ -1,10 +1,12 @@
 -- The modules in an order are those that stand in the root, and there is one such order.
-use Rattle.std.proofs.Common.{◌≡◌, ◌↔◌, ℕ, ◌+◌, Bool, false, List, ◌∷◌, ◌++◌, length, map, None, Some, refl, sym, ap, subst, ◌∙◌, inl, inr}
-use Rattle.std.specs.List.{Contains}
+use Rattle.std.proofs.Common.{◌≡◌, ◌↔◌, ℕ, zero, suc, ◌+◌, ◌≤◌, Bool, false, List, [], ◌∷◌, ◌++◌, length, map, None, Some, refl, sym, ap, subst, ◌∙◌, inl, inr, arith}
+use Rattle.std.specs.List.{Contains, sum_by}
+use Rattle.std.proofs.lemmas.List.Sums.{sum_by-cons}
 use Rattle.just_graph.proofs.Members.{In, contained, from_map, in_cases, in_left, in_map, in_right, is_in}
+use Rattle.just_justfile.proofs.Counts.{count, count_is}
 use Rattle.just_justfile.specs.Closed.{StandsIn, inside, itself}
 use Rattle.just_justfile.specs.declared.justfile.Justfile.{Justfile, out-Justfile}
-use Rattle.just_scopes.specs.Preorder.{AreBelow, IsPreorder, Placed, none, one, placed_under}
+use Rattle.just_scopes.specs.Preorder.{AreBelow, IsPreorder, Placed, is_lazy_under, none, one, placed_under}
 
 -- the modules in one that stands in the root stand there too
 stands-below : (root m n : Justfile) → StandsIn root m → Contains (out-Justfile m).modules n → StandsIn root n
@@ -66,3 +68,20 @@ below-one {parent = parent} {start = start} {above = above} (one {j = j} {js = j
 
 pub one-order : (root : Justfile) (ps qs : List Placed) → IsPreorder root ps → IsPreorder root qs → ps ≡ qs
 one-order root ps qs (b, is, below) (c, are, other) = is ∙ ap (λ xs. placed_under None false root ∷ xs) (below-one below other) ∙ sym are
+
+-- modules have an order, where n is as many as stand in them or more
+some-below : (n parent start : ℕ) (above : Bool) (js : List Justfile) → sum_by count js ≤ n → (ps : List Placed) × AreBelow parent above start js ps
+some-below n parent start above [] enough = ([], none)
+some-below zero parent start above (j ∷ js) enough = let own = count_is j in let both = sum_by-cons count j js in absurd (omega arith)
+some-below (suc n) parent start above (j ∷ js) enough =
+    let own = count_is j in
+    let both = sum_by-cons count j js in
+    let inner = some-below n start (start + 1) (is_lazy_under above j) (out-Justfile j).modules (omega arith) in
+    let after = some-below n parent (start + 1 + length inner.0) above js (omega arith) in
+    (placed_under (Some parent) above j ∷ (inner.0 ++ after.0), one inner.1 after.1)
+
+pub some-order : (root : Justfile) → (ps : List Placed) × IsPreorder root ps
+some-order root =
+    let js = (out-Justfile root).modules in
+    let found = some-below (sum_by count js) 0 1 (is_lazy_under false root) js (omega arith) in
+    (placed_under None false root ∷ found.0, (found.0, refl, found.1))

@@ -5,7 +5,7 @@ use Rattle.std.specs.Global.{Global}
 use Rattle.std.specs.List.{All, Contains, list_any, slice_get}
 use Rattle.std.proofs.lemmas.Bool.{cases_lt, or_cases}
 use Rattle.std.proofs.lemmas.List.Elements.{All-contains}
-use Rattle.just_execution.specs.Leading.{DependsOn, LeadTo, needed_places, places}
+use Rattle.just_execution.specs.Leading.{DependsOnPlace, LeadTo, needed_places, places}
 use Rattle.just_execution.specs.declared.task.Task.{Task}
 use Rattle.just_execution.proofs.Places.{IsBefore, at-place, needs-before}
 use Rattle.just_execution.specs.Pairs.{AllBelow, needed}
@@ -122,7 +122,7 @@ module _ (recipes : List (Recipe Dependency)) (ordered : IsOrdered recipes) (row
     | inr l ↦ targets_past rows a (omega (arith, are.count)) ∙ sym (ap (map (λ (d : Dependency). place_of recipes d.recipe.0)) (none-past recipes a (omega arith)))
   ]
 
-  needed-below : (a b : ℕ) → DependsOn recipes a b → b < length recipes
+  needed-below : (a b : ℕ) → DependsOnPlace recipes a b → b < length recipes
   needed-below a b c = elim (cases_lt a (length recipes)) [
     | inl l ↦
         let r = got-at recipes a l in
@@ -150,7 +150,7 @@ module _ (recipes : List (Recipe Dependency)) (ordered : IsOrdered recipes) (row
   -- and it is what tasks lead to
   pub reaches : (tops : List Task) (starts : List ℕ) (stops : List Bool) → starts ≡ places tops → ((k : ℕ) → get_or stops k false ≡ false) → (a : ℕ) → Reached (HasEdge rows) starts stops a ↔ LeadTo recipes tops a
   reaches tops starts stops same off a = (
-    (λ r. subst (λ ns. Reached (DependsOn recipes) ns [] a) same (reached-as (λ x y s. subst (λ ns. Contains ns y) (same-row x) s) r)),
+    (λ r. subst (λ ns. Reached (DependsOnPlace recipes) ns [] a) same (reached-as (λ x y s. subst (λ ns. Contains ns y) (same-row x) s) r)),
     (λ l. subst (λ ns. Reached (HasEdge rows) ns stops a) (sym same) (reached-on stops off (λ x y s. subst (λ ns. Contains ns y) (sym (same-row x)) s) l)),
   )
 

@@ -18,7 +18,7 @@ use Rattle.just_parts.specs.Reading.{IsReadIn, Reads, ReadsOn}
 use Rattle.just_table.specs.Entries.{IsSorted, find}
 use Rattle.just_scopes.proofs.Needed.{need-flat}
 use Rattle.just_scopes.proofs.Tables.{found_in, value_found}
-use Rattle.just_scopes.specs.Need.{IsFound, IsStart, is_start}
+use Rattle.just_scopes.specs.Need.{IsFound, IsNeededAtOnce, is_start}
 use Rattle.just_scopes.specs.Wanting.{free_values, is_free}
 
 -- members that pass a test
@@ -89,7 +89,7 @@ module _ (used : Number → Bool) (j : Justfile) (sorted : IsSorted (out-Justfil
   start-begun name a is h = in-filter first (values_of table) a (found_in table name a is) h
 
   -- what is read by the values of free starts is needed
-  read-needed : (name : Text) → IsReadIn (known_of j) (free_values j begun) name → NeedsIn j (IsStart used j) name
+  read-needed : (name : Text) → IsReadIn (known_of j) (free_values j begun) name → NeedsIn j (IsNeededAtOnce used j) name
   read-needed name r =
       let v = from_map (λ (a : Assignment). a.value) r.e (filter (is_free j) begun) (is_in r.e (free_values j begun) r.there) in
       let o = out-filter (is_free j) begun v.0 v.1 in
@@ -98,7 +98,7 @@ module _ (used : Number → Bool) (j : Justfile) (sorted : IsSorted (out-Justfil
       onward (starts (record { assigned = v.0; is = s.1; starts = s.2 })) free (record { assigned = v.0; is = s.1; reads = subst (λ e. Reads (known_of j) none_hidden e name) v.2 r.reads })
 
   -- whatever is needed is a start, or is needed from what these values read
-  split-need : (name : Text) → NeedsIn j (IsStart used j) name → IsStart used j name ⊎ NeedsIn j (IsReadIn (known_of j) (free_values j begun)) name
+  split-need : (name : Text) → NeedsIn j (IsNeededAtOnce used j) name → IsNeededAtOnce used j name ⊎ NeedsIn j (IsReadIn (known_of j) (free_values j begun)) name
   split-need name (starts s) = inl s
   split-need name (onward {name = from} n free reads) = elim (split-need from n) [
     | inl s ↦ inr (starts (record {

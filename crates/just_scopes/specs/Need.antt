@@ -22,35 +22,35 @@ abbrev pub is_chosen : Settings → Assignment → Bool
 is_chosen settings a = a.eager || (a.export || settings.export)
 
 -- the recipe at a place to which tasks lead is one of the module
-pub record RunsIn (recipes : List (Recipe Dependency)) (tops : List Task) (j : Justfile) (place : ℕ) (r : Recipe Dependency) : Type 0 where
+pub record RunsInModule (recipes : List (Recipe Dependency)) (tops : List Task) (j : Justfile) (place : ℕ) (r : Recipe Dependency) : Type 0 where
   pub led : LeadTo recipes tops place
   pub there : slice_get recipes place ≡ Some r
   pub path : r.module_path ≡ Some (out-Justfile j).module_path
 
 -- What a run needs at once of a module: the variables that are evaluated anyhow, and those that a recipe of the module reads to which tasks lead.
-pub data Starts (answers : SyntaxAnswers) (recipes : List (Recipe Dependency)) (tops : List Task) (j : Justfile) : Text → Type 0 where
-  chosen : {name : Text} (a : Assignment) → find name (out-Justfile j).assignments ≡ Some a → is_chosen (out-Justfile j).settings a ≡ true → Starts answers recipes tops j name
-  read : {name : Text} (place : ℕ) (r : Recipe Dependency) → RunsIn recipes tops j place r → IsReadBy answers j r name → Starts answers recipes tops j name
+pub data NeedsAtOnce (answers : SyntaxAnswers) (recipes : List (Recipe Dependency)) (tops : List Task) (j : Justfile) : Text → Type 0 where
+  chosen : {name : Text} (a : Assignment) → find name (out-Justfile j).assignments ≡ Some a → is_chosen (out-Justfile j).settings a ≡ true → NeedsAtOnce answers recipes tops j name
+  read : {name : Text} (place : ℕ) (r : Recipe Dependency) → RunsInModule recipes tops j place r → IsReadBy answers j r name → NeedsAtOnce answers recipes tops j name
 
 -- and whatever these read, unless the analysis saw them as overridden, and so on
-abbrev pub IsNeeded : SyntaxAnswers → List (Recipe Dependency) → List Task → Justfile → Text → Type 0
-IsNeeded answers recipes tops j = NeedsIn j (Starts answers recipes tops j)
+abbrev pub IsNeededVariable : SyntaxAnswers → List (Recipe Dependency) → List Task → Justfile → Text → Type 0
+IsNeededVariable answers recipes tops j = NeedsIn j (NeedsAtOnce answers recipes tops j)
 
 -- for each module a set of numbers
-abbrev pub Sets : Type 0
-Sets = Justfile → Number → Bool
+abbrev pub NumberSets : Type 0
+NumberSets = Justfile → Number → Bool
 
 -- of each module that stands in the root, those of exactly the variables that are needed
-abbrev pub AreNeeds : SyntaxAnswers → Justfile → List (Recipe Dependency) → List Task → Sets → Type 0
-AreNeeds answers root recipes tops sets = (j : Justfile) → StandsIn root j → (n : Number) → (sets j n ≡ true) ↔ IsNumberIn (known_of j) (IsNeeded answers recipes tops j) n
+abbrev pub AreNeeds : SyntaxAnswers → Justfile → List (Recipe Dependency) → List Task → NumberSets → Type 0
+AreNeeds answers root recipes tops sets = (j : Justfile) → StandsIn root j → (n : Number) → (sets j n ≡ true) ↔ IsNumberIn (known_of j) (IsNeededVariable answers recipes tops j) n
 
 -- what the evaluator is asked for of a module: of a lazy one its set, and else all
-abbrev pub asked : Sets → Bool → Justfile → NumberSet
+abbrev pub asked : NumberSets → Bool → Justfile → NumberSet
 asked sets lazy j = cond lazy (Some (sets j)) None
 
 -- what is bound then: in a lazy module what is needed, and else all that it has
 abbrev pub IsToBeBound : Bool → SyntaxAnswers → List (Recipe Dependency) → List Task → Justfile → Text → Type 0
-IsToBeBound true answers recipes tops j name = IsNeeded answers recipes tops j name
+IsToBeBound true answers recipes tops j name = IsNeededVariable answers recipes tops j name
 IsToBeBound false answers recipes tops j name = IsSome (find name (out-Justfile j).assignments)
 
 -- for the private functions: the numbers that recipes have to which tasks lead
@@ -68,11 +68,11 @@ AreUsed recipes tops used = (n : Number) → (used n ≡ true) ↔ IsUsed recipe
 abbrev pub is_start : (Number → Bool) → Settings → Assignment → Bool
 is_start used settings a = used a.number || is_chosen settings a
 
-pub record IsStart (used : Number → Bool) (j : Justfile) (name : Text) : Type 0 where
+pub record IsNeededAtOnce (used : Number → Bool) (j : Justfile) (name : Text) : Type 0 where
   pub assigned : Assignment
   pub is : find name (out-Justfile j).assignments ≡ Some assigned
   pub starts : is_start used (out-Justfile j).settings assigned ≡ true
 
 -- a set has the numbers of exactly what is found by it
 abbrev pub IsFound : (Number → Bool) → Justfile → (Number → Bool) → Type 0
-IsFound used j set = (n : Number) → (set n ≡ true) ↔ IsNumberIn (known_of j) (NeedsIn j (IsStart used j)) n
+IsFound used j set = (n : Number) → (set n ≡ true) ↔ IsNumberIn (known_of j) (NeedsIn j (IsNeededAtOnce used j)) n

@@ -15,10 +15,10 @@ use Rattle.just_recipe.specs.declared.dependency.Dependency.{Dependency}
 use Rattle.just_recipe.specs.declared.recipe.Recipe.{Recipe}
 use Rattle.just_run_layers.specs.Evaluation.{Inquiry, ScopeRequest}
 use Rattle.just_run_layers.specs.Host.{Answer}
-use Rattle.just_run_layers.specs.Steps.{Kept, Took, both, kept_by}
+use Rattle.just_run_layers.specs.Interactions.{Log, HasTrace, both, log_of}
 use Rattle.just_run_layers.specs.declared.host.Entry.{Entry}
 use Rattle.just_run_layers.specs.declared.host.Entry.TheVariants as entry
-use Rattle.just_scopes.specs.Need.{AreNeeds, IsToBeBound, Sets, asked}
+use Rattle.just_scopes.specs.Need.{AreNeeds, IsToBeBound, NumberSets, asked}
 use Rattle.just_scopes.specs.Opening.{Front, Handed, Opened, all_opened, folder_of}
 use Rattle.just_scopes.specs.Preorder.{IsPreorder, Placed}
 
@@ -37,7 +37,7 @@ abbrev pub IsServedBy : SyntaxAnswers → Recipe Dependency → Opened → Type 
 IsServedBy answers r o = All (IsRead (known_of o.justfile) o.scope) (scopes_of arguments_of answers (out-Justfile o.justfile).settings r)
 
 -- Once they are open: they are the modules of the root, in order, each lazy where it or one above sets so; in a lazy one exactly what is needed is bound, and in another all; each recipe to which tasks lead has its module among them, and whatever it reads is bound there.
-pub record AreOpen (answers : SyntaxAnswers) (root : Justfile) (recipes : List (Recipe Dependency)) (tops : List Task) (opened : List Opened) : Type 0 where
+pub record AreOpenModules (answers : SyntaxAnswers) (root : Justfile) (recipes : List (Recipe Dependency)) (tops : List Task) (opened : List Opened) : Type 0 where
   pub modules : (ps : List Placed) → IsPreorder root ps → map whose_opened opened ≡ map whose_placed ps
   pub exactly : (o : Opened) → Contains opened o → (name : Text) → IsSome (values_of o.scope name) ↔ IsToBeBound o.lazy answers recipes tops o.justfile name
   pub placed : (place : ℕ) (r : Recipe Dependency) → LeadTo recipes tops place → slice_get recipes place ≡ Some r →
@@ -46,16 +46,16 @@ pub record AreOpen (answers : SyntaxAnswers) (root : Justfile) (recipes : List (
       (o : Opened) → Contains opened o → r.module_path ≡ Some (out-Justfile o.justfile).module_path → IsServedBy answers r o
 
 -- For every host: the steps were taken that open the modules of the root, each lazy one by the set of what is needed.
-abbrev pub Opens : (Inquiry → Option Answer) → (Entry → Option Answer) → Front → Justfile → List (Recipe Dependency) → List Task → Kept → Kept → Result (List Opened) Halt → Type 0
+abbrev pub Opens : (Inquiry → Option Answer) → (Entry → Option Answer) → Front → Justfile → List (Recipe Dependency) → List Task → Log → Log → Result (List Opened) Halt → Type 0
 Opens evaluator host front root recipes tops old new result =
-    (sets : Sets) → AreNeeds front.syntax root recipes tops sets → (ps : List Placed) → IsPreorder root ps → Took (both evaluator host) (all_opened sets front.handed ps) old new result
+    (sets : NumberSets) → AreNeeds front.syntax root recipes tops sets → (ps : List Placed) → IsPreorder root ps → HasTrace (both evaluator host) (all_opened sets front.handed ps) old new result
 
 -- what is kept of open modules: the host was asked for the pairs of each, where files are asked for, and the evaluator for its variables, of a lazy one for what is needed
 abbrev pub dotenv_entry : Handed → Placed → Entry
 dotenv_entry handed p = entry.Dotenv (out-Justfile p.justfile).module_path (folder_of handed.config.working_directory p.justfile)
 
-abbrev pub request_for : Sets → Placed → ScopeRequest
+abbrev pub request_for : NumberSets → Placed → ScopeRequest
 request_for sets p = record { path = (out-Justfile p.justfile).module_path; set = asked sets p.lazy p.justfile }
 
-abbrev pub kept_of : Sets → Handed → List Placed → Kept → Kept
-kept_of sets handed ps old = kept_by (old.entries ++ cond handed.config.load_dotenv (map (dotenv_entry handed) ps) []) (old.requests ++ map (request_for sets) ps)
+abbrev pub kept_of : NumberSets → Handed → List Placed → Log → Log
+kept_of sets handed ps old = log_of (old.entries ++ cond handed.config.load_dotenv (map (dotenv_entry handed) ps) []) (old.requests ++ map (request_for sets) ps)

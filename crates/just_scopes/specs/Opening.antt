@@ -24,10 +24,10 @@ use Rattle.just_recipe.specs.declared.recipe.Recipe.{Recipe}
 use Rattle.just_recipe_body.specs.Body as body
 use Rattle.just_run_layers.specs.Evaluation.{Assignments, ConfigContents, ContextContents, NumberSet, config_contents}
 use Rattle.just_run_layers.specs.Host.{Answer, Paired, Refused, Scoped}
-use Rattle.just_run_layers.specs.Steps.{Asks, Fail, Give, Steps, ToEvaluator, ToHost, and_then}
+use Rattle.just_run_layers.specs.Interactions.{Ask, Fail, Return, Interaction, ToEvaluator, ToHost, and_then}
 use Rattle.just_run_layers.specs.declared.environment.EnvironmentPair.{EnvironmentPair}
 use Rattle.just_run_layers.specs.declared.host.Entry.TheVariants as entry
-use Rattle.just_scopes.specs.Need.{Sets, asked}
+use Rattle.just_scopes.specs.Need.{NumberSets, asked}
 use Rattle.just_scopes.specs.Preorder.{Placed}
 use Rattle.just_scopes.specs.declared.opening.OpenedModule.{OpenedModule}
 
@@ -62,18 +62,18 @@ pub record Opened : Type 0 where
   pub scope : Scope
 
 -- what a module is handed by the one around it; the root is handed nothing
-pub record Around : Type 0 where
+pub record Inherited : Type 0 where
   pub dotenv : List EnvironmentPair
   pub scope : Scope
 
-abbrev pub nothing : Around
+abbrev pub nothing : Inherited
 nothing = record { dotenv = []; scope = record { bindings = [] } }
 
-abbrev pub hands : Option Opened → Around
+abbrev pub hands : Option Opened → Inherited
 hands None = nothing
 hands (Some o) = record { dotenv = o.dotenv; scope = o.scope }
 
-abbrev pub around : List Opened → Option ℕ → Around
+abbrev pub around : List Opened → Option ℕ → Inherited
 around opened None = nothing
 around opened (Some place) = hands (slice_get opened place)
 
@@ -82,40 +82,40 @@ abbrev pub folder_of : Option Text → Justfile → Text
 folder_of configured j = body.folder_of (out-Justfile j).module_path.components configured (out-Justfile j).working_directory
 
 -- its own pairs stand behind those around it; no file is asked for where the front says so
-abbrev pub pairs_answered : List EnvironmentPair → Answer → Steps (List EnvironmentPair)
-pairs_answered before (Paired pairs) = Give (before ++ pairs)
+abbrev pub pairs_answered : List EnvironmentPair → Answer → Interaction (List EnvironmentPair)
+pairs_answered before (Paired pairs) = Return (before ++ pairs)
 pairs_answered before (Refused message) = Fail (Failed (Dotenv (record { message = message })))
 pairs_answered before _ = Fail Memory
 
-abbrev pub dotenv_steps : ConfigContents → Justfile → List EnvironmentPair → Steps (List EnvironmentPair)
+abbrev pub dotenv_steps : ConfigContents → Justfile → List EnvironmentPair → Interaction (List EnvironmentPair)
 dotenv_steps config j before =
-    cond config.load_dotenv (Asks (ToHost (entry.Dotenv (out-Justfile j).module_path (folder_of config.working_directory j))) (pairs_answered before)) (Give [])
+    cond config.load_dotenv (Ask (ToHost (entry.Dotenv (out-Justfile j).module_path (folder_of config.working_directory j))) (pairs_answered before)) (Return [])
 
 -- the values of its variables: of a set of them, or of all
-abbrev pub scope_answered : Answer → Steps Scope
-scope_answered (Scoped scope) = Give scope
+abbrev pub scope_answered : Answer → Interaction Scope
+scope_answered (Scoped scope) = Return scope
 scope_answered (Refused message) = Fail (unevaluated message)
 scope_answered _ = Fail Memory
 
-abbrev pub scope_steps : Handed → Justfile → NumberSet → Scope → List EnvironmentPair → Steps Scope
-scope_steps handed j set parent dotenv = Asks (ToEvaluator (Assignments (context_in handed j dotenv) parent set)) scope_answered
+abbrev pub scope_steps : Handed → Justfile → NumberSet → Scope → List EnvironmentPair → Interaction Scope
+scope_steps handed j set parent dotenv = Ask (ToEvaluator (Assignments (context_in handed j dotenv) parent set)) scope_answered
 
 -- one module is opened
 abbrev pub opened_with : Placed → List EnvironmentPair → Scope → Opened
 opened_with p dotenv scope = record { justfile = p.justfile; lazy = p.lazy; dotenv = dotenv; scope = scope }
 
-abbrev pub open_steps : Sets → Handed → Placed → Around → Steps Opened
+abbrev pub open_steps : NumberSets → Handed → Placed → Inherited → Interaction Opened
 open_steps sets handed p a =
     and_then (dotenv_steps handed.config p.justfile a.dotenv)
-    (λ dotenv. and_then (scope_steps handed p.justfile (asked sets p.lazy p.justfile) a.scope dotenv) (λ scope. Give (opened_with p dotenv scope)))
+    (λ dotenv. and_then (scope_steps handed p.justfile (asked sets p.lazy p.justfile) a.scope dotenv) (λ scope. Return (opened_with p dotenv scope)))
 
 -- modules are opened in turn, where others are open
-abbrev pub openings : Sets → Handed → List Placed → List Opened → Steps (List Opened)
-openings sets handed [] opened = Give opened
+abbrev pub openings : NumberSets → Handed → List Placed → List Opened → Interaction (List Opened)
+openings sets handed [] opened = Return opened
 openings sets handed (p ∷ ps) opened = and_then (open_steps sets handed p (around opened p.parent)) (λ o. openings sets handed ps (opened ++ o ∷ []))
 
 -- all of them, in order
-abbrev pub all_opened : Sets → Handed → List Placed → Steps (List Opened)
+abbrev pub all_opened : NumberSets → Handed → List Placed → Interaction (List Opened)
 all_opened sets handed ps = openings sets handed ps []
 
 -- what recipes run by in an open module

@@ -16,10 +16,10 @@ use Rattle.just_parts.specs.Needs.{HaveNumbersApart, has_number, same_number}
 use Rattle.just_parts.specs.Reading.{IsEvaluationOrder}
 use Rattle.just_run_layers.specs.Evaluation.{Inquiry, NumberSet, ScopeRequest, in_set}
 use Rattle.just_run_layers.specs.Host.{Answer}
-use Rattle.just_run_layers.specs.Steps.{Kept, Steps, Took, both, kept_by}
+use Rattle.just_run_layers.specs.Interactions.{Log, Interaction, HasTrace, both, log_of}
 use Rattle.just_run_layers.specs.declared.host.Entry.{Entry}
-use Rattle.just_scopes.specs.Need.{IsFound, Sets}
-use Rattle.just_scopes.specs.Opening.{Around, Handed, Opened, all_opened, open_steps}
+use Rattle.just_scopes.specs.Need.{IsFound, NumberSets}
+use Rattle.just_scopes.specs.Opening.{Inherited, Handed, Opened, all_opened, open_steps}
 use Rattle.just_scopes.specs.Preorder.{Placed}
 use Rattle.just_scopes.specs.declared.opening.Surrounding.{Surrounding}
 
@@ -27,17 +27,17 @@ use Rattle.just_scopes.specs.declared.opening.Surrounding.{Surrounding}
 abbrev pub wanted_from : Handed → Justfile → NumberSet → Wanted
 wanted_from handed j set = wanted_by (out-Justfile j).assignments (out-Justfile j).functions handed.overrides (in_set set) (out-Justfile j).settings.lists
 
-abbrev pub Overrides : Type 0
-Overrides = HashMap Number Text (BuildHasherDefault FoldHasher)
+abbrev pub NumberOverrides : Type 0
+NumberOverrides = HashMap Number Text (BuildHasherDefault FoldHasher)
 
 -- what the one around hands over, as data
-abbrev pub around_as : Surrounding → Around
+abbrev pub around_as : Surrounding → Inherited
 around_as a = record { dotenv = a.dotenv; scope = a.scope }
 
 -- questions of which the evaluator is asked none, whatever it has kept
-abbrev pub AsksHost : {A : Type 0} → (Entry → Option Answer) → Steps A → List Entry → List Entry → Result A Halt → Type 0
-AsksHost host steps before later result =
-    (evaluator : Inquiry → Option Answer) (requests : List ScopeRequest) → Took (both evaluator host) steps (kept_by before requests) (kept_by later requests) result
+abbrev pub AsksHostAlone : {A : Type 0} → (Entry → Option Answer) → Interaction A → List Entry → List Entry → Result A Halt → Type 0
+AsksHostAlone host steps before later result =
+    (evaluator : Inquiry → Option Answer) (requests : List ScopeRequest) → HasTrace (both evaluator host) steps (log_of before requests) (log_of later requests) result
 
 -- A module may be opened: its variables have an order and numbers of their own, and what the analysis saw as overridden is so in the run.
 pub record CanOpen (overridden : Number → Bool) (j : Justfile) : Type 0 where
@@ -55,16 +55,16 @@ pub data IsSetFor (used : Number → Bool) (j : Justfile) : Bool → NumberSet �
   all : IsSetFor used j false None
 
 -- the sets of some modules are found by what recipes use
-abbrev pub AreFound : (Number → Bool) → List Placed → Sets → Type 0
-AreFound used ps sets = (p : Placed) → Contains ps p → IsFound used p.justfile (sets p.justfile)
+abbrev pub AreFoundSets : (Number → Bool) → List Placed → NumberSets → Type 0
+AreFoundSets used ps sets = (p : Placed) → Contains ps p → IsFound used p.justfile (sets p.justfile)
 
 -- one module is opened, and all of them are
-abbrev pub OpensOne : (Inquiry → Option Answer) → (Entry → Option Answer) → (Number → Bool) → Handed → Placed → Around → Kept → Kept → Result Opened Halt → Type 0
+abbrev pub OpensOne : (Inquiry → Option Answer) → (Entry → Option Answer) → (Number → Bool) → Handed → Placed → Inherited → Log → Log → Result Opened Halt → Type 0
 OpensOne evaluator host used handed p a old new result =
-    (sets : Sets) → IsFound used p.justfile (sets p.justfile) → Took (both evaluator host) (open_steps sets handed p a) old new result
+    (sets : NumberSets) → IsFound used p.justfile (sets p.justfile) → HasTrace (both evaluator host) (open_steps sets handed p a) old new result
 
-abbrev pub OpensAll : (Inquiry → Option Answer) → (Entry → Option Answer) → (Number → Bool) → Handed → List Placed → Kept → Kept → Result (List Opened) Halt → Type 0
-OpensAll evaluator host used handed ps old new result = (sets : Sets) → AreFound used ps sets → Took (both evaluator host) (all_opened sets handed ps) old new result
+abbrev pub OpensAll : (Inquiry → Option Answer) → (Entry → Option Answer) → (Number → Bool) → Handed → List Placed → Log → Log → Result (List Opened) Halt → Type 0
+OpensAll evaluator host used handed ps old new result = (sets : NumberSets) → AreFoundSets used ps sets → HasTrace (both evaluator host) (all_opened sets handed ps) old new result
 
 -- a scope binds what its module was asked for
 pub record IsOpenedBy (used : Number → Bool) (handed : Handed) (o : Opened) : Type 0 where

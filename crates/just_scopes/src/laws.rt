@@ -4,14 +4,15 @@ ghost use Rattle.std.specs.List.{Contains};
 ghost use Rattle.just_justfile.specs.Closed.{StandsIn};
 ghost use Rattle.just_justfile.specs.declared.justfile.Justfile.{Justfile};
 ghost use Rattle.just_run_layers.specs.Host.{Answer};
-ghost use Rattle.just_run_layers.specs.Steps.{Kept, Question, Took};
-ghost use Rattle.just_scopes.specs.Need.{Sets};
+ghost use Rattle.just_run_layers.specs.Interactions.{Log, Question, HasTrace};
+ghost use Rattle.just_scopes.specs.Need.{NumberSets};
 ghost use Rattle.just_scopes.specs.Open.{kept_of};
 ghost use Rattle.just_scopes.specs.Opening.{Handed, Opened, all_opened};
 ghost use Rattle.just_scopes.specs.Preorder.{IsPreorder, Placed};
 
 /// A root has one order of the modules that stand in it, and these are all that do. The call does nothing.
 pub fn lists_modules_in_one_order()
+    ensures some { (root : Justfile) → (ps : List Placed) × IsPreorder root ps }
     ensures one { (root : Justfile) (ps qs : List Placed) → IsPreorder root ps → IsPreorder root qs → ps ≡ qs }
     ensures all { (root j : Justfile) (ps : List Placed) → IsPreorder root ps → Contains (map (λ (p : Placed). p.justfile) ps) j ↔ StandsIn root j }
 {}
@@ -19,6 +20,6 @@ pub fn lists_modules_in_one_order()
 /// Where modules were opened, the host was asked for the pairs of each of them once, where the configuration says so, and the
 /// evaluation for its variables once, a lazy one for its set; and for nothing else. The call does nothing.
 pub fn asks_for_each_module_once()
-    ensures { (sets : Sets) (handed : Handed) (promised : Question → Option Answer) (ps : List Placed) (old new : Kept) (opened : List Opened) →
-        Took promised (all_opened sets handed ps) old new (Ok opened) → new ≡ kept_of sets handed ps old }
+    ensures { (sets : NumberSets) (handed : Handed) (promised : Question → Option Answer) (ps : List Placed) (old new : Log) (opened : List Opened) →
+        HasTrace promised (all_opened sets handed ps) old new (Ok opened) → new ≡ kept_of sets handed ps old }
 {}

@@ -4,10 +4,10 @@
 mod context;
 pub mod laws;
 mod modules;
+mod needs;
 mod opening;
 mod scopes;
-mod used;
-mod wanted;
+mod uses;
 
 pub use opening::{OpenedModule, open_modules};
 pub use scopes::scopes_of;

@@ -3,7 +3,7 @@
 ghost use Rattle.std.specs.Prelude.{◌≡◌, ◌++◌, length, map, IfOk};
 ghost use Rattle.std.specs.HashSet.{contains};
 ghost use Rattle.std.specs.List.{All, Contains};
-ghost use Rattle.just_execution.specs.Leaves.{AsksAlone};
+ghost use Rattle.just_execution.specs.TaskInteractions.{AsksAlone};
 ghost use Rattle.just_execution.specs.Pairs.{AllBelow};
 ghost use Rattle.just_justfile.specs.Running.{CanRun, HoldsOverridden, TellsBareLines, known_of};
 ghost use Rattle.just_justfile.specs.declared.justfile.Justfile.{out-Justfile};
@@ -11,16 +11,16 @@ ghost use Rattle.just_parts.specs.Evaluator.{Binds};
 ghost use Rattle.just_parts.specs.Needs.{HaveNumbersApart, IsClosed, has_number, same_number};
 ghost use Rattle.just_run_layers.specs.Evaluation.{config_contents, in_set, set_of};
 ghost use Rattle.just_run_layers.specs.Host.{KeepsPromises, executed};
-ghost use Rattle.just_run_layers.specs.Steps.{kept_by};
-ghost use Rattle.just_scopes.specs.Open.{AreOpen, Opens, whose_opened, whose_placed};
+ghost use Rattle.just_run_layers.specs.Interactions.{log_of};
+ghost use Rattle.just_scopes.specs.Open.{AreOpenModules, Opens, whose_opened, whose_placed};
 ghost use Rattle.just_scopes.specs.Opening.{around, dotenv_steps, folder_of, front_of, handed_of, opened_as, opened_in, opened_of, scope_steps};
-ghost use Rattle.just_scopes.specs.Opens.{AsksHost, CanOpen, IsOpenedBy, IsSetFor, OpensAll, OpensOne, around_as, set_in, wanted_from};
+ghost use Rattle.just_scopes.specs.Opens.{AsksHostAlone, CanOpen, IsOpenedBy, IsSetFor, OpensAll, OpensOne, around_as, set_in, wanted_from};
 ghost use Rattle.just_scopes.specs.Preorder.{placed};
 
 use crate::context::context_of;
 use crate::modules::{PlacedModule, modules_in};
-use crate::used::used_numbers;
-use crate::wanted::wanted_numbers;
+use crate::needs::wanted_numbers;
+use crate::uses::used_numbers;
 use just_data::{Chain, Shared, Text};
 use just_errors::Refusal;
 use just_execution::Task;
@@ -117,7 +117,7 @@ fn ask_pairs<'src, H: Host>(
 ) -> Result<Chain<EnvironmentPair>, Halt<'src>>
     ensures keeps { KeepsPromises (H.promised host.old) (H.promised host.new) }
     ensures took { let steps = dotenv_steps (config_contents config.now) justfile.now before.now in
-        AsksHost (H.promised host.old) steps (H.entries host.old) (H.entries host.new) result }
+        AsksHostAlone (H.promised host.old) steps (H.entries host.old) (H.entries host.new) result }
 {
     if !config.load_dotenv {
         return Ok(Chain::new());
@@ -187,8 +187,8 @@ fn open_module<'run, 'src, E: Evaluation, H: Host>(
     ensures keeps { KeepsPromises (E.promised evaluation.old) (E.promised evaluation.new) }
     ensures keeps_host { KeepsPromises (H.promised host.old) (H.promised host.new) }
     ensures nothing_runs { executed (H.entries host.new) ≡ executed (H.entries host.old) }
-    ensures took { let first = kept_by (H.entries host.old) (E.requests evaluation.old) in
-        let last = kept_by (H.entries host.new) (E.requests evaluation.new) in
+    ensures took { let first = log_of (H.entries host.old) (E.requests evaluation.old) in
+        let last = log_of (H.entries host.new) (E.requests evaluation.new) in
         let handed = handed_of config.now overrides.now in
         let opens = OpensOne (E.promised evaluation.old) (H.promised host.old) (contains same_number used.now) handed in
         opens (placed entry.now) (around_as outer.now) first last (opened_as result) }
@@ -232,8 +232,8 @@ fn open_next<'run, 'src, E: Evaluation, H: Host>(
     ensures keeps { KeepsPromises (E.promised evaluation.old) (E.promised evaluation.new) }
     ensures keeps_host { KeepsPromises (H.promised host.old) (H.promised host.new) }
     ensures nothing_runs { executed (H.entries host.new) ≡ executed (H.entries host.old) }
-    ensures took { let first = kept_by (H.entries host.old) (E.requests evaluation.old) in
-        let last = kept_by (H.entries host.new) (E.requests evaluation.new) in
+    ensures took { let first = log_of (H.entries host.old) (E.requests evaluation.old) in
+        let last = log_of (H.entries host.new) (E.requests evaluation.new) in
         let handed = handed_of config.now overrides.now in
         let opens = OpensOne (E.promised evaluation.old) (H.promised host.old) (contains same_number used.now) handed in
         opens (placed entry.now) (around (map opened_of opened.now) entry.now.parent) first last (opened_as result) }
@@ -261,8 +261,8 @@ fn open_all<'run, 'src, E: Evaluation, H: Host>(
     ensures keeps { KeepsPromises (E.promised evaluation.old) (E.promised evaluation.new) }
     ensures keeps_host { KeepsPromises (H.promised host.old) (H.promised host.new) }
     ensures nothing_runs { executed (H.entries host.new) ≡ executed (H.entries host.old) }
-    ensures took { let first = kept_by (H.entries host.old) (E.requests evaluation.old) in
-        let last = kept_by (H.entries host.new) (E.requests evaluation.new) in
+    ensures took { let first = log_of (H.entries host.old) (E.requests evaluation.old) in
+        let last = log_of (H.entries host.new) (E.requests evaluation.new) in
         let handed = handed_of config.now overrides.now in
         let opens = OpensAll (E.promised evaluation.old) (H.promised host.old) (contains same_number used.now) handed in
         opens (map placed modules.now) first last (opened_in result) }
@@ -313,12 +313,12 @@ pub fn open_modules<'run, 'src, S: Syntax, E: Evaluation, H: Host>(
     ensures keeps { KeepsPromises (E.promised evaluation.old) (E.promised evaluation.new) }
     ensures keeps_host { KeepsPromises (H.promised host.old) (H.promised host.new) }
     ensures nothing_runs { executed (H.entries host.new) ≡ executed (H.entries host.old) }
-    ensures took { let first = kept_by (H.entries host.old) (E.requests evaluation.old) in
-        let last = kept_by (H.entries host.new) (E.requests evaluation.new) in
+    ensures took { let first = log_of (H.entries host.old) (E.requests evaluation.old) in
+        let last = log_of (H.entries host.new) (E.requests evaluation.new) in
         let front = front_of (S.answers syntax.now) config.now overrides.now in
         let opens = Opens (E.promised evaluation.old) (H.promised host.old) front root.now recipes.now tops.now in
         opens first last (opened_in result) }
-    ensures open { IfOk result (λ os. AreOpen (S.answers syntax.now) root.now recipes.now tops.now (map opened_of os.items)) }
+    ensures open { IfOk result (λ os. AreOpenModules (S.answers syntax.now) root.now recipes.now tops.now (map opened_of os.items)) }
 {
     let used = used_numbers(alloc, recipes, tops)?;
     let modules = modules_in(alloc, root)?;

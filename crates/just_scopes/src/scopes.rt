@@ -1,8 +1,8 @@
 //! What recipes run in, once the modules are open.
 ghost use Rattle.std.specs.Prelude.{◌≡◌, map, IfOk};
-ghost use Rattle.just_execution.specs.Homes.{AreHome};
+ghost use Rattle.just_execution.specs.Homes.{AllHaveModuleScope};
 ghost use Rattle.just_execution.specs.Scene.{scene_in};
-ghost use Rattle.just_scopes.specs.Open.{AreOpen};
+ghost use Rattle.just_scopes.specs.Open.{AreOpenModules};
 ghost use Rattle.just_scopes.specs.Opening.{front_of, handed_of, opened_of, scene_of};
 ghost use Rattle.just_scopes.specs.Scoped.{AreModulesOf};
 
@@ -34,8 +34,8 @@ fn modules_of<'run, 'src>(
     Ok(modules)
 }
 
-/// What recipes run in under a grammar: these modules, which are open. Each recipe is at home to which the tasks lead that
-/// they were opened for. The error is want of memory.
+/// What recipes run in under a grammar: these modules, which are open. Each recipe to which the tasks lead that they were
+/// opened for has its module's scope. The error is want of memory.
 pub fn scopes_of<'run, 'src, S: Syntax>(
     alloc: Global,
     config: &'run Config,
@@ -46,9 +46,9 @@ pub fn scopes_of<'run, 'src, S: Syntax>(
     ensures scene { let front = front_of (S.answers syntax.now) config.now overrides.now in
         let scene = scene_of front in
         IfOk result (λ scopes. (recipes : _) → scene_in (S.answers scopes.syntax.now) scopes recipes ≡ scene recipes (map opened_of opened.entry.items)) }
-    ensures home { let is_open = AreOpen (S.answers syntax.now) in
+    ensures home { let is_open = AreOpenModules (S.answers syntax.now) in
         IfOk result (λ scopes. (root : _) (recipes : _) (tops : _) → is_open root recipes tops (map opened_of opened.entry.items) →
-        AreHome (S.answers scopes.syntax.now) scopes.modules recipes tops) }
+        AllHaveModuleScope (S.answers scopes.syntax.now) scopes.modules recipes tops) }
     ensures syntax { IfOk result (λ scopes. scopes.syntax.now ≡ syntax.now) }
     ensures alone { IfOk result (λ scopes. scopes.no_dependencies ≡ config.now.no_dependencies) }
 {

@@ -10,35 +10,35 @@ use Rattle.just_run_layers.specs.declared.calls.ScriptCall.{ScriptCall}
 use Rattle.just_run_layers.specs.declared.environment.EnvironmentChange.{EnvironmentChange}
 use Rattle.just_run_layers.specs.declared.host.Entry.TheVariants.{Script}
 use Rattle.just_run_layers.specs.Host.{Answer, Ran}
-use Rattle.just_run_layers.specs.Steps.{Asks, Fail, Give, Steps, ToHost, and_then}
+use Rattle.just_run_layers.specs.Interactions.{Ask, Fail, Return, Interaction, ToHost, and_then}
 use Rattle.just_recipe_body.specs.Attributes.{continues_on, prints_message, takes_positional_arguments}
 use Rattle.just_recipe_body.specs.Body.{BodyContents, directory_steps, environment_steps, format_steps, given, is_mute, line_steps, name_of, show_steps, stamped, time_steps, with_pairs}
 use Rattle.just_recipe_body.specs.Judging.{judged, no_marks}
-use Rattle.just_recipe_body.specs.declared.judging.Program.TheVariants as program
-use Rattle.just_recipe_body.specs.declared.judging.Teller.{Teller}
+use Rattle.just_recipe_body.specs.declared.judgement.Program.TheVariants as program
+use Rattle.just_recipe_body.specs.declared.judgement.Teller.{Teller}
 use Rattle.just_script_body.specs.Executors.{executor_of}
 use Rattle.just_script_body.specs.ScriptAttributes.{extension_of}
 
 -- the name of the recipe is shown behind the time, where there is one
-abbrev pub show_time_steps : BodyContents → Option Text → Steps (Unit {0})
-show_time_steps b None = Give tt
+abbrev pub show_time_steps : BodyContents → Option Text → Interaction (Unit {0})
+show_time_steps b None = Return tt
 show_time_steps b (Some time) = show_steps (stamped time (name_of b))
 
-abbrev pub begin_steps : BodyContents → Steps (Unit {0})
+abbrev pub begin_steps : BodyContents → Interaction (Unit {0})
 begin_steps b = and_then (format_steps b) (λ format. and_then (time_steps format) (show_time_steps b))
 
 -- lines are evaluated one after another, each by itself
-abbrev pub texts_steps : BodyContents → List Line → Steps (List Text)
-texts_steps b [] = Give []
-texts_steps b (line ∷ lines) = and_then (line_steps b line false) (λ text. and_then (texts_steps b lines) (λ texts. Give (text ∷ texts)))
+abbrev pub texts_steps : BodyContents → List Line → Interaction (List Text)
+texts_steps b [] = Return []
+texts_steps b (line ∷ lines) = and_then (line_steps b line false) (λ text. and_then (texts_steps b lines) (λ texts. Return (text ∷ texts)))
 
 -- texts are shown one after another, or none is
-abbrev pub show_all_steps : List Text → Steps (Unit {0})
-show_all_steps [] = Give tt
+abbrev pub show_all_steps : List Text → Interaction (Unit {0})
+show_all_steps [] = Return tt
 show_all_steps (text ∷ texts) = and_then (show_steps text) (λ _. show_all_steps texts)
 
-abbrev pub show_if_steps : Bool → List Text → Steps (Unit {0})
-show_if_steps is_shown texts = cond is_shown (show_all_steps texts) (Give tt)
+abbrev pub show_if_steps : Bool → List Text → Interaction (Unit {0})
+show_if_steps is_shown texts = cond is_shown (show_all_steps texts) (Return tt)
 
 -- the script is shown before anything runs, and as it is handed over
 abbrev pub is_shown : BodyContents → Bool
@@ -68,35 +68,35 @@ abbrev pub teller_of : BodyContents → Teller
 teller_of b = record { recipe = name_of b; line_number = None; print_message = prints_message b.recipe b.context.settings }
 
 -- what the answer comes to; an answer of another kind does not come up
-abbrev pub script_answered : BodyContents → Answer → Steps (Unit {0})
-script_answered b (Ran answer) = and_then (given (judged program.Script (teller_of b) (continues_on b.recipe) no_marks answer)) (λ next. Give tt)
+abbrev pub script_answered : BodyContents → Answer → Interaction (Unit {0})
+script_answered b (Ran answer) = and_then (given (judged program.Script (teller_of b) (continues_on b.recipe) no_marks answer)) (λ next. Return tt)
 script_answered b _ = Fail Memory
 
-abbrev pub script_call_steps : BodyContents → ScriptCall → Steps (Unit {0})
-script_call_steps b call = Asks (ToHost (Script call)) (script_answered b)
+abbrev pub script_call_steps : BodyContents → ScriptCall → Interaction (Unit {0})
+script_call_steps b call = Ask (ToHost (Script call)) (script_answered b)
 
 -- the script runs: the environment is asked for just before
-abbrev pub call_steps : BodyContents → Executor → List Text → Option Text → Steps (Unit {0})
+abbrev pub call_steps : BodyContents → Executor → List Text → Option Text → Interaction (Unit {0})
 call_steps b executor texts directory = and_then (environment_steps b) (λ changes. script_call_steps b (script_call b executor texts directory changes))
 
-abbrev pub shown_call_steps : BodyContents → Executor → List Text → Option Text → Steps (Unit {0})
+abbrev pub shown_call_steps : BodyContents → Executor → List Text → Option Text → Interaction (Unit {0})
 shown_call_steps b executor texts directory =
     and_then (show_if_steps (is_grandiloquent b.context.config.verbosity) texts) (λ _. call_steps b executor texts directory)
 
 -- what runs it, and then the working directory
-abbrev pub executed_steps : BodyContents → List Text → Executor → Steps (Unit {0})
+abbrev pub executed_steps : BodyContents → List Text → Executor → Interaction (Unit {0})
 executed_steps b texts executor = and_then (directory_steps b) (shown_call_steps b executor texts)
 
-abbrev pub run_steps : BodyContents → List Text → Steps (Unit {0})
+abbrev pub run_steps : BodyContents → List Text → Interaction (Unit {0})
 run_steps b texts = and_then (given (executor_of b texts)) (executed_steps b texts)
 
 -- nothing runs in a dry run
-abbrev pub unless_dry_steps : BodyContents → List Text → Steps (Unit {0})
-unless_dry_steps b texts = cond b.context.config.dry_run (Give tt) (run_steps b texts)
+abbrev pub unless_dry_steps : BodyContents → List Text → Interaction (Unit {0})
+unless_dry_steps b texts = cond b.context.config.dry_run (Return tt) (run_steps b texts)
 
-abbrev pub shown_steps : BodyContents → List Text → Steps (Unit {0})
+abbrev pub shown_steps : BodyContents → List Text → Interaction (Unit {0})
 shown_steps b texts = and_then (show_if_steps (is_shown b) texts) (λ _. unless_dry_steps b texts)
 
 -- A script body: the time with the name of the recipe, all its lines, and then the script.
-abbrev pub script_steps : BodyContents → Steps (Unit {0})
+abbrev pub script_steps : BodyContents → Interaction (Unit {0})
 script_steps b = and_then (begin_steps b) (λ _. and_then (texts_steps b b.recipe.body) (shown_steps b))

@@ -4,7 +4,7 @@ ghost use Rattle.std.specs.List.{All};
 ghost use Rattle.just_parts.specs.Scopes.{attribute_expressions, of_attributes};
 ghost use Rattle.just_run_layers.specs.Covering.{IsCovered, module_of};
 ghost use Rattle.just_run_layers.specs.Host.{KeepsPromises};
-ghost use Rattle.just_run_layers.specs.Steps.{Took, both, kept_by};
+ghost use Rattle.just_run_layers.specs.Interactions.{HasTrace, both, log_of};
 ghost use Rattle.just_recipe_body.specs.Body.{contents_of};
 ghost use Rattle.just_recipe_body.specs.Covering.{IsLineCovered};
 ghost use Rattle.just_recipe_body.specs.Taking.{AsksHost};
@@ -22,7 +22,7 @@ use just_recipe_body::attributes::{prints_message, takes_positional_arguments};
 use just_recipe_body::body::{
     Body, ask_changes, ask_directory, ask_format, ask_time, is_mute, stamped, with_pairs,
 };
-use just_recipe_body::judging::{Marks, Program, Teller, judge};
+use just_recipe_body::judgement::{Marks, Program, Teller, judge};
 use just_run_layers::{EnvironmentChange, Evaluation, Executor, Host, ScriptCall};
 use std::alloc::{AllocError, Global};
 
@@ -56,10 +56,10 @@ fn begin<'a, 'run, 'src, S: Syntax, E: Evaluation, H: Host>(
     requires covered { All (IsCovered (module_of body.now.context.now) body.now.scope.now) (of_attributes attribute_expressions body.now.recipe.now) }
     ensures keeps { KeepsPromises (E.promised evaluation.old) (E.promised evaluation.new) }
     ensures keeps_host { KeepsPromises (H.promised host.old) (H.promised host.new) }
-    ensures took { let first = kept_by (H.entries host.old) (E.requests evaluation.old) in
-        let last = kept_by (H.entries host.new) (E.requests evaluation.new) in
+    ensures took { let first = log_of (H.entries host.old) (E.requests evaluation.old) in
+        let last = log_of (H.entries host.new) (E.requests evaluation.new) in
         let steps = spec.begin_steps (contents_of (S.answers body.now.syntax.now) body.now) in
-        Took (both (E.promised evaluation.old) (H.promised host.old)) steps first last result }
+        HasTrace (both (E.promised evaluation.old) (H.promised host.old)) steps first last result }
 {
     let format = ask_format(alloc, body, evaluation)?;
     let time = ask_time(host, &format)?;
@@ -173,10 +173,10 @@ fn run_call<'a, 'run, 'src, S: Syntax, E: Evaluation, H: Host>(
 ) -> Result<(), Halt<'src>>
     ensures keeps { KeepsPromises (E.promised evaluation.old) (E.promised evaluation.new) }
     ensures keeps_host { KeepsPromises (H.promised host.old) (H.promised host.new) }
-    ensures took { let first = kept_by (H.entries host.old) (E.requests evaluation.old) in
-        let last = kept_by (H.entries host.new) (E.requests evaluation.new) in
+    ensures took { let first = log_of (H.entries host.old) (E.requests evaluation.old) in
+        let last = log_of (H.entries host.new) (E.requests evaluation.new) in
         let steps = spec.call_steps (contents_of (S.answers body.now.syntax.now) body.now) executor texts working_directory in
-        Took (both (E.promised evaluation.old) (H.promised host.old)) steps first last result }
+        HasTrace (both (E.promised evaluation.old) (H.promised host.old)) steps first last result }
 {
     let changes = ask_changes(alloc, body, evaluation)?;
     let call = script_call(alloc, body, executor, texts, working_directory, changes)?;
@@ -194,10 +194,10 @@ fn run_texts<'a, 'run, 'src, S: Syntax, E: Evaluation, H: Host>(
     requires covered { All (IsCovered (module_of body.now.context.now) body.now.scope.now) (of_attributes attribute_expressions body.now.recipe.now) }
     ensures keeps { KeepsPromises (E.promised evaluation.old) (E.promised evaluation.new) }
     ensures keeps_host { KeepsPromises (H.promised host.old) (H.promised host.new) }
-    ensures took { let first = kept_by (H.entries host.old) (E.requests evaluation.old) in
-        let last = kept_by (H.entries host.new) (E.requests evaluation.new) in
+    ensures took { let first = log_of (H.entries host.old) (E.requests evaluation.old) in
+        let last = log_of (H.entries host.new) (E.requests evaluation.new) in
         let steps = spec.run_steps (contents_of (S.answers body.now.syntax.now) body.now) texts in
-        Took (both (E.promised evaluation.old) (H.promised host.old)) steps first last result }
+        HasTrace (both (E.promised evaluation.old) (H.promised host.old)) steps first last result }
 {
     let executor = executor_of(alloc, body, &texts)?;
     let working_directory = ask_directory(alloc, body, evaluation)?;
@@ -228,10 +228,10 @@ fn run_unless_dry<'a, 'run, 'src, S: Syntax, E: Evaluation, H: Host>(
     requires covered { All (IsCovered (module_of body.now.context.now) body.now.scope.now) (of_attributes attribute_expressions body.now.recipe.now) }
     ensures keeps { KeepsPromises (E.promised evaluation.old) (E.promised evaluation.new) }
     ensures keeps_host { KeepsPromises (H.promised host.old) (H.promised host.new) }
-    ensures took { let first = kept_by (H.entries host.old) (E.requests evaluation.old) in
-        let last = kept_by (H.entries host.new) (E.requests evaluation.new) in
+    ensures took { let first = log_of (H.entries host.old) (E.requests evaluation.old) in
+        let last = log_of (H.entries host.new) (E.requests evaluation.new) in
         let steps = spec.unless_dry_steps (contents_of (S.answers body.now.syntax.now) body.now) texts in
-        Took (both (E.promised evaluation.old) (H.promised host.old)) steps first last result }
+        HasTrace (both (E.promised evaluation.old) (H.promised host.old)) steps first last result }
 {
     if body.context.config.dry_run {
         return Ok(());
@@ -252,10 +252,10 @@ pub fn run_script<'a, 'run, 'src, S: Syntax, E: Evaluation, H: Host>(
     requires lines { All (IsLineCovered (module_of body.now.context.now) body.now.scope.now) body.now.recipe.now.body }
     ensures keeps { KeepsPromises (E.promised evaluation.old) (E.promised evaluation.new) }
     ensures keeps_host { KeepsPromises (H.promised host.old) (H.promised host.new) }
-    ensures took { let first = kept_by (H.entries host.old) (E.requests evaluation.old) in
-        let last = kept_by (H.entries host.new) (E.requests evaluation.new) in
+    ensures took { let first = log_of (H.entries host.old) (E.requests evaluation.old) in
+        let last = log_of (H.entries host.new) (E.requests evaluation.new) in
         let steps = spec.script_steps (contents_of (S.answers body.now.syntax.now) body.now) in
-        Took (both (E.promised evaluation.old) (H.promised host.old)) steps first last result }
+        HasTrace (both (E.promised evaluation.old) (H.promised host.old)) steps first last result }
 {
     begin(alloc, body, evaluation, host)?;
     let texts = ask_texts(alloc, body, body.recipe.body.as_slice(), evaluation)?;

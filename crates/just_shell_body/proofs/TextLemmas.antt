@@ -12,10 +12,10 @@ use Rattle.just_errors.specs.declared.halt.Halt.{Halt}
 use Rattle.just_names.specs.Texts.{Text}
 use Rattle.just_parts.specs.Syntax.{SyntaxAnswers}
 use Rattle.just_run_layers.specs.LineTexts.{AgreesWith, BeginsPlain, EndsWithBackslash}
-use Rattle.just_run_layers.specs.Steps.{Give, Kept, Question, Took, and_then}
+use Rattle.just_run_layers.specs.Interactions.{Return, Log, Question, HasTrace, and_then}
 use Rattle.just_run_layers.specs.Host.{Answer}
 use Rattle.just_recipe_body.specs.Body.{BodyContents, line_steps}
-use Rattle.just_shell_body.specs.Lines.{BeginsGroup, text_steps, trimmed}
+use Rattle.just_shell_body.specs.Lines.{TextBeginsGroup, text_steps, trimmed}
 
 -- a text that begins so begins so with more after it
 pub plain-append : (count : ℕ) (text more : Text) → BeginsPlain count text → BeginsPlain count (text ++ more)
@@ -60,26 +60,26 @@ plain-boundary (suc n) text u b =
     subst (IsCharBoundary text) e (IsCharBoundary-after_ascii text n u (omega (arith, b.within)) (b.plain n (omega arith)))
 
 -- a group begins as its first line does
-pub begins-group : (syntax : SyntaxAnswers) (settings : Settings) (lines : List Line) (line : Line) (text : Text) → 0 < length lines → line ≡ get_or lines 0 line → BeginsPlain (length (syntax.sigils line settings)) text → BeginsGroup syntax settings lines text
+pub begins-group : (syntax : SyntaxAnswers) (settings : Settings) (lines : List Line) (line : Line) (text : Text) → 0 < length lines → line ≡ get_or lines 0 line → BeginsPlain (length (syntax.sigils line settings)) text → TextBeginsGroup syntax settings lines text
 begins-group syntax settings [] line text l e b = tt
 begins-group syntax settings (first ∷ rest) line text l e b = subst (λ x. BeginsPlain (length (syntax.sigils x settings)) text) e b
 
-group-append : (syntax : SyntaxAnswers) (settings : Settings) (lines : List Line) (text more : Text) → BeginsGroup syntax settings lines text → BeginsGroup syntax settings lines (text ++ more)
+group-append : (syntax : SyntaxAnswers) (settings : Settings) (lines : List Line) (text more : Text) → TextBeginsGroup syntax settings lines text → TextBeginsGroup syntax settings lines (text ++ more)
 group-append syntax settings [] text more b = tt
 group-append syntax settings (first ∷ rest) text more b = plain-append (length (syntax.sigils first settings)) text more b
 
 -- with one part more it begins so
 pub begins-on : (syntax : SyntaxAnswers) (settings : Settings) (lines : List Line) (line : Line) (i : ℕ) (continued : Bool) (text part : Text) → i < length lines → line ≡ get_or lines i line →
-    (continued ≡ false → (i ≡ 0) × (text ≡ [])) → (continued ≡ true → BeginsGroup syntax settings lines text) → (continued ≡ false → BeginsPlain (length (syntax.sigils line settings)) part) → BeginsGroup syntax settings lines (text ++ part)
+    (continued ≡ false → (i ≡ 0) × (text ≡ [])) → (continued ≡ true → TextBeginsGroup syntax settings lines text) → (continued ≡ false → BeginsPlain (length (syntax.sigils line settings)) part) → TextBeginsGroup syntax settings lines (text ++ part)
 begins-on syntax settings lines line i true text part l e start later b = group-append syntax settings lines text part (later refl)
 begins-on syntax settings lines line i false text part l e start later b =
     let at = start refl in
-    subst (λ t. BeginsGroup syntax settings lines (t ++ part)) (sym at.1)
+    subst (λ t. TextBeginsGroup syntax settings lines (t ++ part)) (sym at.1)
     (begins-group syntax settings lines line part (omega (arith, l)) (e ∙ ap (λ k. get_or lines k line) at.0) (b refl))
 
 -- at the end of the lines
 pub begins-all : (syntax : SyntaxAnswers) (settings : Settings) (lines : List Line) (i : ℕ) (continued : Bool) (text : Text) → length lines ≤ i →
-    (continued ≡ false → (i ≡ 0) × (text ≡ [])) → (continued ≡ true → BeginsGroup syntax settings lines text) → BeginsGroup syntax settings lines text
+    (continued ≡ false → (i ≡ 0) × (text ≡ [])) → (continued ≡ true → TextBeginsGroup syntax settings lines text) → TextBeginsGroup syntax settings lines text
 begins-all syntax settings lines i true text l start later = later refl
 begins-all syntax settings [] i false text l start later = tt
 begins-all syntax settings (line ∷ lines) i false text l start later = let at = (start refl).0 in absurd (omega (arith, l, at))
@@ -105,9 +105,9 @@ drop-none zero (x ∷ xs) h = absurd (omega (arith, h))
 drop-none (suc i) (x ∷ xs) h = drop-none i xs (omega (arith, h))
 
 module _ (p : Question → Option Answer) (b : BodyContents) where
-  pub one-line : (continued : Bool) (text : Text) (i : ℕ) (lines : List Line) (line : Line) (old new : Kept) (r : Result Text Halt) → i < length lines → line ≡ get_or lines i line →
-      Took p (and_then (line_steps b line continued) (λ part. text_steps b true (text ++ trimmed (b.syntax.is_continuation line) part) (drop (i + 1) lines))) old new r → Took p (text_steps b continued text (drop i lines)) old new r
-  one-line continued text i lines line old new r h e t = subst (λ ls. Took p (text_steps b continued text ls) old new r) (sym (drop-one i lines line h e)) t
+  pub one-line : (continued : Bool) (text : Text) (i : ℕ) (lines : List Line) (line : Line) (old new : Log) (r : Result Text Halt) → i < length lines → line ≡ get_or lines i line →
+      HasTrace p (and_then (line_steps b line continued) (λ part. text_steps b true (text ++ trimmed (b.syntax.is_continuation line) part) (drop (i + 1) lines))) old new r → HasTrace p (text_steps b continued text (drop i lines)) old new r
+  one-line continued text i lines line old new r h e t = subst (λ ls. HasTrace p (text_steps b continued text ls) old new r) (sym (drop-one i lines line h e)) t
 
-  pub no-lines : (continued : Bool) (text : Text) (i : ℕ) (lines : List Line) (old new : Kept) (r : Result Text Halt) → length lines ≤ i → Took p (Give text) old new r → Took p (text_steps b continued text (drop i lines)) old new r
-  no-lines continued text i lines old new r h t = subst (λ ls. Took p (text_steps b continued text ls) old new r) (sym (drop-none i lines h)) t
+  pub no-lines : (continued : Bool) (text : Text) (i : ℕ) (lines : List Line) (old new : Log) (r : Result Text Halt) → length lines ≤ i → HasTrace p (Return text) old new r → HasTrace p (text_steps b continued text (drop i lines)) old new r
+  no-lines continued text i lines old new r h t = subst (λ ls. HasTrace p (text_steps b continued text ls) old new r) (sym (drop-none i lines h)) t

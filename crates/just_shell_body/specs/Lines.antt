@@ -10,7 +10,7 @@ use Rattle.just_parts.specs.Groups.{ends_group}
 use Rattle.just_parts.specs.Known.{Known}
 use Rattle.just_parts.specs.Syntax.{SyntaxAnswers}
 use Rattle.just_run_layers.specs.LineTexts.{BeginsPlain}
-use Rattle.just_run_layers.specs.Steps.{Give, Steps, and_then}
+use Rattle.just_run_layers.specs.Interactions.{Return, Interaction, and_then}
 use Rattle.just_recipe_body.specs.Body.{BodyContents, line_steps}
 use Rattle.just_recipe_body.specs.Covering.{IsLineCovered}
 use Rattle.just_recipe_body.specs.Judging.{marks_of, number_from_one}
@@ -41,8 +41,8 @@ abbrev pub trimmed : Bool → Text → Text
 trimmed continues text = cond continues (take (length text - 1) text) text
 
 -- the joined text of lines, after a text
-abbrev pub text_steps : BodyContents → Bool → Text → List Line → Steps Text
-text_steps b continued text [] = Give text
+abbrev pub text_steps : BodyContents → Bool → Text → List Line → Interaction Text
+text_steps b continued text [] = Return text
 text_steps b continued text (line ∷ lines) =
     and_then (line_steps b line continued) (λ part. text_steps b true (text ++ trimmed (b.syntax.is_continuation line) part) lines)
 
@@ -61,11 +61,11 @@ abbrev pub command_of : List Sigil → Line → List Line → Text → Option Gr
 command_of sigils line lines text = command_said sigils line lines (drop (length sigils) text)
 
 -- A group of lines: it is skipped, or its lines are evaluated one after another, and come to a command or none.
-abbrev pub group_command_steps : BodyContents → List Line → Steps (Option GroupCommand)
-group_command_steps b [] = Give None
+abbrev pub group_command_steps : BodyContents → List Line → Interaction (Option GroupCommand)
+group_command_steps b [] = Return None
 group_command_steps b (line ∷ lines) =
-    cond (is_skipped b.syntax b.context.settings line) (Give None)
-    (and_then (text_steps b false [] (line ∷ lines)) (λ text. Give (command_of (b.syntax.sigils line b.context.settings) line lines text)))
+    cond (is_skipped b.syntax b.context.settings line) (Return None)
+    (and_then (text_steps b false [] (line ∷ lines)) (λ text. Return (command_of (b.syntax.sigils line b.context.settings) line lines text)))
 
 -- for the private functions: what the lines of a group read is bound where it is not skipped
 abbrev pub IsGroupCovered : SyntaxAnswers → Settings → Known → Scope → List Line → Type 0
@@ -76,6 +76,6 @@ abbrev pub AreGroupsCovered : SyntaxAnswers → Settings → Known → Scope →
 AreGroupsCovered syntax settings known scope lines = All (IsGroupCovered syntax settings known scope) (groups syntax settings lines)
 
 -- a text begins with as many plain bytes as the first line has sigils, where there is a first line
-abbrev pub BeginsGroup : SyntaxAnswers → Settings → List Line → Text → Type 0
-BeginsGroup syntax settings [] text = Unit {0}
-BeginsGroup syntax settings (line ∷ lines) text = BeginsPlain (length (syntax.sigils line settings)) text
+abbrev pub TextBeginsGroup : SyntaxAnswers → Settings → List Line → Text → Type 0
+TextBeginsGroup syntax settings [] text = Unit {0}
+TextBeginsGroup syntax settings (line ∷ lines) text = BeginsPlain (length (syntax.sigils line settings)) text

@@ -11,17 +11,17 @@ use Rattle.just_run_layers.specs.declared.calls.ShellCall.{ShellCall}
 use Rattle.just_run_layers.specs.declared.environment.EnvironmentChange.{EnvironmentChange}
 use Rattle.just_run_layers.specs.declared.host.Entry.TheVariants.{Shell}
 use Rattle.just_run_layers.specs.Host.{Answer, Ran}
-use Rattle.just_run_layers.specs.Steps.{Asks, Fail, Give, Steps, ToHost, and_then}
+use Rattle.just_run_layers.specs.Interactions.{Ask, Fail, Return, Interaction, ToHost, and_then}
 use Rattle.just_recipe_body.specs.Attributes.{continues_on, is_no_quiet, prints_message, takes_positional_arguments}
 use Rattle.just_recipe_body.specs.Body.{BodyContents, environment_steps, given, is_loquacious, is_mute, name_of, prepare_steps, show_steps, stamped, time_steps, with_pairs}
 use Rattle.just_recipe_body.specs.Judging.{judged}
 use Rattle.just_shell_body.specs.Lines.{group_command_steps, groups}
 use Rattle.just_recipe_body.specs.declared.body.Preparation.{Preparation}
-use Rattle.just_recipe_body.specs.declared.judging.Marks.{Marks}
-use Rattle.just_recipe_body.specs.declared.judging.Next.{Next}
-use Rattle.just_recipe_body.specs.declared.judging.Next.TheVariants.{Onward, Ended}
-use Rattle.just_recipe_body.specs.declared.judging.Program.TheVariants as program
-use Rattle.just_recipe_body.specs.declared.judging.Teller.{Teller}
+use Rattle.just_recipe_body.specs.declared.judgement.Marks.{Marks}
+use Rattle.just_recipe_body.specs.declared.judgement.Next.{Next}
+use Rattle.just_recipe_body.specs.declared.judgement.Next.TheVariants.{Onward, Ended}
+use Rattle.just_recipe_body.specs.declared.judgement.Program.TheVariants as program
+use Rattle.just_recipe_body.specs.declared.judgement.Teller.{Teller}
 use Rattle.just_shell_body.specs.declared.lines.GroupCommand.{GroupCommand}
 
 -- one sigil `@` turns what the other one says
@@ -43,8 +43,8 @@ abbrev pub shown_command : Option Text → Text → Text
 shown_command None command = command
 shown_command (Some time) command = stamped time command
 
-abbrev pub show_command_steps : BodyContents → GroupCommand → Option Text → Steps (Unit {0})
-show_command_steps b command time = cond (is_shown b command.marks time) (show_steps (shown_command time command.text)) (Give tt)
+abbrev pub show_command_steps : BodyContents → GroupCommand → Option Text → Interaction (Unit {0})
+show_command_steps b command time = cond (is_shown b command.marks time) (show_steps (shown_command time command.text)) (Return tt)
 
 -- what a shell is handed
 abbrev pub usual_shell : Interpreter Text
@@ -71,49 +71,49 @@ abbrev pub teller_of : BodyContents → GroupCommand → Teller
 teller_of b command = record { recipe = name_of b; line_number = command.line_number; print_message = prints_message b.recipe b.context.settings }
 
 -- what the answer of the shell comes to; an answer of another kind does not come up
-abbrev pub shell_answered : BodyContents → GroupCommand → Answer → Steps Next
+abbrev pub shell_answered : BodyContents → GroupCommand → Answer → Interaction Next
 shell_answered b command (Ran answer) = given (judged program.Shell (teller_of b command) (continues_on b.recipe) command.marks answer)
 shell_answered b command _ = Fail Memory
 
-abbrev pub shell_call_steps : BodyContents → GroupCommand → ShellCall → Steps Next
-shell_call_steps b command call = Asks (ToHost (Shell call)) (shell_answered b command)
+abbrev pub shell_call_steps : BodyContents → GroupCommand → ShellCall → Interaction Next
+shell_call_steps b command call = Ask (ToHost (Shell call)) (shell_answered b command)
 
 -- a command runs: the environment is asked for just before
-abbrev pub call_steps : BodyContents → Preparation → GroupCommand → Steps Next
+abbrev pub call_steps : BodyContents → Preparation → GroupCommand → Interaction Next
 call_steps b prepared command =
     and_then (environment_steps b) (λ changes. shell_call_steps b command (shell_call b prepared.working_directory command.text changes))
 
 -- nothing runs in a dry run
-abbrev pub unless_dry_steps : BodyContents → Preparation → GroupCommand → Steps Next
-unless_dry_steps b prepared command = cond b.context.config.dry_run (Give Onward) (call_steps b prepared command)
+abbrev pub unless_dry_steps : BodyContents → Preparation → GroupCommand → Interaction Next
+unless_dry_steps b prepared command = cond b.context.config.dry_run (Return Onward) (call_steps b prepared command)
 
 -- a command is shown with the time, and runs
-abbrev pub timed_steps : BodyContents → Preparation → GroupCommand → Option Text → Steps Next
+abbrev pub timed_steps : BodyContents → Preparation → GroupCommand → Option Text → Interaction Next
 timed_steps b prepared command time = and_then (show_command_steps b command time) (λ _. unless_dry_steps b prepared command)
 
-abbrev pub one_command_steps : BodyContents → Preparation → GroupCommand → Steps Next
+abbrev pub one_command_steps : BodyContents → Preparation → GroupCommand → Interaction Next
 one_command_steps b prepared command = and_then (time_steps prepared.timestamp_format) (timed_steps b prepared command)
 
-abbrev pub command_steps : BodyContents → Preparation → Option GroupCommand → Steps Next
-command_steps b prepared None = Give Onward
+abbrev pub command_steps : BodyContents → Preparation → Option GroupCommand → Interaction Next
+command_steps b prepared None = Return Onward
 command_steps b prepared (Some command) = one_command_steps b prepared command
 
 -- a group of lines
-abbrev pub group_steps : BodyContents → Preparation → List Line → Steps Next
+abbrev pub group_steps : BodyContents → Preparation → List Line → Interaction Next
 group_steps b prepared group = and_then (group_command_steps b group) (command_steps b prepared)
 
 -- groups, until one ends the recipe
-abbrev pub unless_ended : Steps (Unit {0}) → Next → Steps (Unit {0})
+abbrev pub unless_ended : Interaction (Unit {0}) → Next → Interaction (Unit {0})
 unless_ended rest Onward = rest
-unless_ended rest Ended = Give tt
+unless_ended rest Ended = Return tt
 
-abbrev pub groups_steps : BodyContents → Preparation → List (List Line) → Steps (Unit {0})
-groups_steps b prepared [] = Give tt
+abbrev pub groups_steps : BodyContents → Preparation → List (List Line) → Interaction (Unit {0})
+groups_steps b prepared [] = Return tt
 groups_steps b prepared (group ∷ rest) = and_then (group_steps b prepared group) (unless_ended (groups_steps b prepared rest))
 
 -- A shell body: the working directory and the format of the time, and then its groups of lines.
-abbrev pub lines_steps : BodyContents → Preparation → List Line → Steps (Unit {0})
+abbrev pub lines_steps : BodyContents → Preparation → List Line → Interaction (Unit {0})
 lines_steps b prepared lines = groups_steps b prepared (groups b.syntax b.context.settings lines)
 
-abbrev pub shell_steps : BodyContents → Steps (Unit {0})
+abbrev pub shell_steps : BodyContents → Interaction (Unit {0})
 shell_steps b = and_then (prepare_steps b) (λ prepared. lines_steps b prepared b.recipe.body)

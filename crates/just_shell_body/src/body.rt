@@ -5,7 +5,7 @@ ghost use Rattle.just_parts.specs.Scopes.{attribute_expressions, of_attributes};
 ghost use Rattle.just_run_layers.specs.Covering.{IsCovered, module_of};
 ghost use Rattle.just_run_layers.specs.Host.{KeepsPromises};
 ghost use Rattle.just_run_layers.specs.LineTexts.{AgreesWith};
-ghost use Rattle.just_run_layers.specs.Steps.{Took, both, kept_by};
+ghost use Rattle.just_run_layers.specs.Interactions.{HasTrace, both, log_of};
 ghost use Rattle.just_recipe_body.specs.Body.{contents_of};
 ghost use Rattle.just_shell_body.specs.Lines.{AreGroupsCovered, groups};
 ghost use Rattle.just_shell_body.specs.ShellBody as spec;
@@ -16,7 +16,7 @@ use just_ast_definitions::Line;
 use just_errors::Halt;
 use just_parts::layers::Syntax;
 use just_recipe_body::body::{Body, Preparation, prepare};
-use just_recipe_body::judging::Next;
+use just_recipe_body::judgement::Next;
 use just_run_layers::{Evaluation, Host};
 use std::alloc::Global;
 
@@ -51,10 +51,10 @@ fn run_groups<'a, 'run, 'src, S: Syntax, E: Evaluation, H: Host>(
         covered (module_of body.now.context.now) body.now.scope.now lines.now }
     ensures keeps { KeepsPromises (E.promised evaluation.old) (E.promised evaluation.new) }
     ensures keeps_host { KeepsPromises (H.promised host.old) (H.promised host.new) }
-    ensures took { let first = kept_by (H.entries host.old) (E.requests evaluation.old) in
-        let last = kept_by (H.entries host.new) (E.requests evaluation.new) in
+    ensures took { let first = log_of (H.entries host.old) (E.requests evaluation.old) in
+        let last = log_of (H.entries host.new) (E.requests evaluation.new) in
         let steps = spec.lines_steps (contents_of (S.answers body.now.syntax.now) body.now) preparation.now lines.now in
-        Took (both (E.promised evaluation.old) (H.promised host.old)) steps first last result }
+        HasTrace (both (E.promised evaluation.old) (H.promised host.old)) steps first last result }
 {
     let mut at = 0;
     while at < lines.len() {
@@ -82,10 +82,10 @@ pub fn run_shell<'a, 'run, 'src, S: Syntax, E: Evaluation, H: Host>(
         covered (module_of body.now.context.now) body.now.scope.now body.now.recipe.now.body }
     ensures keeps { KeepsPromises (E.promised evaluation.old) (E.promised evaluation.new) }
     ensures keeps_host { KeepsPromises (H.promised host.old) (H.promised host.new) }
-    ensures took { let first = kept_by (H.entries host.old) (E.requests evaluation.old) in
-        let last = kept_by (H.entries host.new) (E.requests evaluation.new) in
+    ensures took { let first = log_of (H.entries host.old) (E.requests evaluation.old) in
+        let last = log_of (H.entries host.new) (E.requests evaluation.new) in
         let steps = spec.shell_steps (contents_of (S.answers body.now.syntax.now) body.now) in
-        Took (both (E.promised evaluation.old) (H.promised host.old)) steps first last result }
+        HasTrace (both (E.promised evaluation.old) (H.promised host.old)) steps first last result }
 {
     let preparation = prepare(alloc, body, evaluation)?;
     let lines = body.recipe.body.as_slice();

@@ -8,7 +8,7 @@ ghost use Rattle.just_run_layers.specs.LineTexts.{AgreesWith, BeginsPlain, EndsW
 ghost use Rattle.just_recipe_body.specs.Body.{contents_of};
 ghost use Rattle.just_recipe_body.specs.Covering.{IsLineCovered};
 ghost use Rattle.just_shell_body.specs.Lines as spec;
-ghost use Rattle.just_shell_body.specs.Lines.{BeginsGroup, IsGroupCovered};
+ghost use Rattle.just_shell_body.specs.Lines.{TextBeginsGroup, IsGroupCovered};
 ghost use Rattle.just_recipe_body.specs.Taking.{AsksEvaluator};
 
 use just_ast_definitions::Line;
@@ -17,7 +17,7 @@ use just_data::Text;
 use just_errors::Halt;
 use just_parts::layers::Syntax;
 use just_recipe_body::body::{Body, ask_line};
-use just_recipe_body::judging::{Marks, marks_of, number_from_one};
+use just_recipe_body::judgement::{Marks, marks_of, number_from_one};
 use just_run_layers::Evaluation;
 use std::alloc::{AllocError, Global};
 
@@ -79,7 +79,7 @@ fn ask_text<'a, 'run, 'src, S: Syntax, E: Evaluation>(
 ) -> Result<Text, Halt<'src>>
     requires same { AgreesWith E.sigils E.continues (S.answers body.now.syntax.now) }
     requires covered { All (IsLineCovered (module_of body.now.context.now) body.now.scope.now) lines.now }
-    ensures begins { IfOk result (BeginsGroup (S.answers body.now.syntax.now) body.now.context.now.settings.now lines.now) }
+    ensures begins { IfOk result (TextBeginsGroup (S.answers body.now.syntax.now) body.now.context.now.settings.now lines.now) }
     ensures keeps { KeepsPromises (E.promised evaluation.old) (E.promised evaluation.new) }
     ensures took { let steps = spec.text_steps (contents_of (S.answers body.now.syntax.now) body.now) false [] lines.now in
         AsksEvaluator (E.promised evaluation.old) steps (E.requests evaluation.old) (E.requests evaluation.new) result }

@@ -3,7 +3,7 @@ ghost use Rattle.std.specs.Prelude.{◌≡◌, IfOk};
 ghost use Rattle.just_run_layers.specs.Covering.{module_of};
 ghost use Rattle.just_run_layers.specs.Host.{KeepsPromises};
 ghost use Rattle.just_run_layers.specs.LineTexts.{AgreesWith};
-ghost use Rattle.just_run_layers.specs.Steps.{Took, both, kept_by};
+ghost use Rattle.just_run_layers.specs.Interactions.{HasTrace, both, log_of};
 ghost use Rattle.just_recipe_body.specs.Body.{contents_of};
 ghost use Rattle.just_shell_body.specs.Lines.{IsGroupCovered};
 ghost use Rattle.just_shell_body.specs.ShellBody as spec;
@@ -19,7 +19,7 @@ use just_recipe_body::attributes::{has_no_quiet, prints_message, takes_positiona
 use just_recipe_body::body::{
     Body, Preparation, ask_changes, ask_time, is_loquacious, is_mute, stamped, with_pairs,
 };
-use just_recipe_body::judging::{Marks, Next, Program, Teller, judge};
+use just_recipe_body::judgement::{Marks, Next, Program, Teller, judge};
 use just_run_layers::{EnvironmentChange, Evaluation, Host, Positional, ShellCall};
 use std::alloc::{AllocError, Global};
 
@@ -189,10 +189,10 @@ fn run_unless_dry<'a, 'run, 'src, S: Syntax, E: Evaluation, H: Host>(
 ) -> Result<Next, Halt<'src>>
     ensures keeps { KeepsPromises (E.promised evaluation.old) (E.promised evaluation.new) }
     ensures keeps_host { KeepsPromises (H.promised host.old) (H.promised host.new) }
-    ensures took { let first = kept_by (H.entries host.old) (E.requests evaluation.old) in
-        let last = kept_by (H.entries host.new) (E.requests evaluation.new) in
+    ensures took { let first = log_of (H.entries host.old) (E.requests evaluation.old) in
+        let last = log_of (H.entries host.new) (E.requests evaluation.new) in
         let steps = spec.unless_dry_steps (contents_of (S.answers body.now.syntax.now) body.now) preparation.now command.now in
-        Took (both (E.promised evaluation.old) (H.promised host.old)) steps first last result }
+        HasTrace (both (E.promised evaluation.old) (H.promised host.old)) steps first last result }
 {
     if body.context.config.dry_run {
         return Ok(Next::Onward);
@@ -219,10 +219,10 @@ fn run_command<'a, 'run, 'src, S: Syntax, E: Evaluation, H: Host>(
 ) -> Result<Next, Halt<'src>>
     ensures keeps { KeepsPromises (E.promised evaluation.old) (E.promised evaluation.new) }
     ensures keeps_host { KeepsPromises (H.promised host.old) (H.promised host.new) }
-    ensures took { let first = kept_by (H.entries host.old) (E.requests evaluation.old) in
-        let last = kept_by (H.entries host.new) (E.requests evaluation.new) in
+    ensures took { let first = log_of (H.entries host.old) (E.requests evaluation.old) in
+        let last = log_of (H.entries host.new) (E.requests evaluation.new) in
         let steps = spec.one_command_steps (contents_of (S.answers body.now.syntax.now) body.now) preparation.now command.now in
-        Took (both (E.promised evaluation.old) (H.promised host.old)) steps first last result }
+        HasTrace (both (E.promised evaluation.old) (H.promised host.old)) steps first last result }
 {
     let time = ask_time(host, &preparation.timestamp_format)?;
     show_command(alloc, body, command, &time, host)?;
@@ -245,10 +245,10 @@ pub fn run_group<'a, 'run, 'src, S: Syntax, E: Evaluation, H: Host>(
         covered (module_of body.now.context.now) body.now.scope.now lines.now }
     ensures keeps { KeepsPromises (E.promised evaluation.old) (E.promised evaluation.new) }
     ensures keeps_host { KeepsPromises (H.promised host.old) (H.promised host.new) }
-    ensures took { let first = kept_by (H.entries host.old) (E.requests evaluation.old) in
-        let last = kept_by (H.entries host.new) (E.requests evaluation.new) in
+    ensures took { let first = log_of (H.entries host.old) (E.requests evaluation.old) in
+        let last = log_of (H.entries host.new) (E.requests evaluation.new) in
         let steps = spec.group_steps (contents_of (S.answers body.now.syntax.now) body.now) preparation.now lines.now in
-        Took (both (E.promised evaluation.old) (H.promised host.old)) steps first last result }
+        HasTrace (both (E.promised evaluation.old) (H.promised host.old)) steps first last result }
 {
     match ask_command(alloc, body, lines, evaluation)? {
         Some(command) => run_command(alloc, body, preparation, &command, evaluation, host),

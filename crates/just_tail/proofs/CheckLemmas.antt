@@ -11,9 +11,9 @@ use Rattle.just_tail.specs.declared.error.TailError.{TailError}
 use Rattle.just_tail.specs.declared.tail.Tail.{Tail}
 use Rattle.just_tail.specs.Words.{Words, shown}
 use Rattle.just_tail.specs.Options.{first_of}
-use Rattle.just_tail.specs.Cause.{Cause, cause_of}
+use Rattle.just_tail.specs.Cause.{ArgumentFault, cause_of}
 use Rattle.just_tail.specs.Tail.{IsTail}
-use Rattle.just_tail.specs.Checks.{lacking, CountFault, unfit, first_unfit, refusal, Stops}
+use Rattle.just_tail.specs.Checks.{lacking, CountFault, unfit, first_unfit, refusal, StopsTail}
 use Rattle.just_tail.proofs.TailLemmas.{texts_cut}
 
 param_at : (ps : List Parameter) (i : ℕ) (p : Parameter) → i < length ps → p ≡ get_or ps i p → drop i ps ≡ p ∷ drop (i + 1) ps
@@ -36,7 +36,7 @@ both_at F ps gs i p g h e f k =
     ap (λ x. F x (drop i (shown gs))) (param_at ps i p h f) ∙ ap (λ y. F (p ∷ drop (i + 1) ps) y) (group_at gs i g within k)
 
 -- where the groups before place i pass, what is said of the group there is said of all, or else what is said of those after it
-pub unfit_at : (counts : CountFault) (ps : List Parameter) (gs : List (Vec (Bor Text) Global)) (i : ℕ) (p : Parameter) (g : Vec (Bor Text) Global) (ws : List (Bor Text)) (o : Option Cause) →
+pub unfit_at : (counts : CountFault) (ps : List Parameter) (gs : List (Vec (Bor Text) Global)) (i : ℕ) (p : Parameter) (g : Vec (Bor Text) Global) (ws : List (Bor Text)) (o : Option ArgumentFault) →
     i < length ps → length gs ≡ length ps → p ≡ get_or ps i p → g ≡ get_or gs i g → ws ≡ g.items →
     first_unfit counts ps (shown gs) ≡ first_unfit counts (drop i ps) (drop i (shown gs)) → unfit counts p (texts ws) ≡ o →
     first_unfit counts ps (shown gs) ≡ first_of o (first_unfit counts (drop (i + 1) ps) (drop (i + 1) (shown gs)))
@@ -56,8 +56,8 @@ unfit_told counts ps gs i p g ws error h e f k same passed told =
 abbrev Begins : List Parameter → List (Bor Text) → Tail → Type 0
 Begins ps words t = IsTail ps (texts (take t.taken words)) (texts (drop t.taken words)) t.found (shown t.groups.items)
 
-refused_stops : (counts : CountFault) (ps : List Parameter) (words : List (Bor Text)) (t : Tail) (cause : Cause) → Begins ps words t →
-    refusal counts ps (shown t.groups.items) t.found ≡ Some cause → Stops counts ps (texts words) cause
+refused_stops : (counts : CountFault) (ps : List Parameter) (words : List (Bor Text)) (t : Tail) (cause : ArgumentFault) → Begins ps words t →
+    refusal counts ps (shown t.groups.items) t.found ≡ Some cause → StopsTail counts ps (texts words) cause
 refused_stops counts ps words t cause reads refused =
     inr (record {
       tail = texts (take t.taken words);
@@ -71,7 +71,7 @@ refused_stops counts ps words t cause reads refused =
 
 -- an error that says what is missing says why the words are refused
 pub lacking_stops : (counts : CountFault) (ps : List Parameter) (words : List (Bor Text)) (t : Tail) (gs : List (Vec (Bor Text) Global)) (error : TailError) → Begins ps words t →
-    gs ≡ t.groups.items → IfSome (cause_of error) (λ cause. lacking ps (shown gs) t.found ≡ Some cause) → IfSome (cause_of error) (Stops counts ps (texts words))
+    gs ≡ t.groups.items → IfSome (cause_of error) (λ cause. lacking ps (shown gs) t.found ≡ Some cause) → IfSome (cause_of error) (StopsTail counts ps (texts words))
 lacking_stops counts ps words t gs error reads same told =
     IfSome_then (cause_of error) told
     (λ cause is.
@@ -81,7 +81,7 @@ lacking_stops counts ps words t gs error reads same told =
 -- so does one that says which texts are not right, where nothing is missing
 pub unfit_stops : (counts : CountFault) (ps : List Parameter) (words : List (Bor Text)) (t : Tail) (gs hs : List (Vec (Bor Text) Global)) (error : TailError) → Begins ps words t →
     gs ≡ t.groups.items → hs ≡ t.groups.items → lacking ps (shown gs) t.found ≡ None →
-    IfSome (cause_of error) (λ cause. first_unfit counts ps (shown hs) ≡ Some cause) → IfSome (cause_of error) (Stops counts ps (texts words))
+    IfSome (cause_of error) (λ cause. first_unfit counts ps (shown hs) ≡ Some cause) → IfSome (cause_of error) (StopsTail counts ps (texts words))
 unfit_stops counts ps words t gs hs error reads same alike present told =
     IfSome_then (cause_of error) told
     (λ cause is.

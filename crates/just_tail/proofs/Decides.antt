@@ -10,18 +10,18 @@ use Rattle.just_ast_definitions.specs.declared.parameter.Parameter.{Parameter}
 use Rattle.just_errors.specs.declared.switch.Switch.{Switch}
 use Rattle.just_tail.specs.Words.{Words}
 use Rattle.just_tail.specs.Options.{place}
-use Rattle.just_tail.specs.Pieces.{OptionName, long, cluster, Given, nothing, equals, next, Piece, positional, dashes, option, with_value, option_word, value_of, next_of, words_of, switches_of, has_equals, IsOptionName, IsNamed, is_dashed, IsNameless}
-use Rattle.just_tail.specs.Steps.{Step, use_switch, give, steps_of, placed, is_open, group_of, Need, unknown, duplicate, no_text, some_text, need, Fits, StepsFollow, PiecesFollow, Ends}
-use Rattle.just_tail.specs.Cause.{Cause, invalid_option, unknown_option, duplicate_option, flag_with_value, option_missing_value}
-use Rattle.just_tail.specs.Tail.{IsTail, Refuses, given_nothing, Refused, BadOption, NoTail}
-use Rattle.just_tail.specs.Checks.{CountFault, refusal, TakesArguments, Stops}
+use Rattle.just_tail.specs.Pieces.{OptionName, long, cluster, Supplied, nothing, equals, next, Piece, positional, dashes, option, with_value, option_word, value_of, next_of, words_of, switches_of, has_equals, IsOptionName, HasOptionName, is_dashed, IsNameless}
+use Rattle.just_tail.specs.Steps.{Step, use_switch, give, steps_of, placed, is_open, group_of, Need, unknown, duplicate, no_text, some_text, need, FitsNeed, StepsFollow, PiecesFollow, Ends}
+use Rattle.just_tail.specs.Cause.{ArgumentFault, invalid_option, unknown_option, duplicate_option, flag_with_value, option_missing_value}
+use Rattle.just_tail.specs.Tail.{IsTail, RefusesSwitch, given_nothing, Refused, BadOption, NoTail}
+use Rattle.just_tail.specs.Checks.{CountFault, refusal, TakesArguments, StopsTail}
 use Rattle.just_tail.proofs.Fronts.{some_switch}
 use Rattle.just_tail.proofs.WordLemmas.{some_chars, with_dashes, with_dash, no_dash}
 use Rattle.just_tail.proofs.OptionLemmas.{open_more}
 
 -- a switch in the middle of a cluster is given nothing, or refused
 middle : (k : Need) (s : Switch) (after : List Switch) (value : Option Text) (rest : Words) → after ≢ [] →
-    Fits k nothing ⊎ ((cause : Cause) × Refuses k s after value rest cause)
+    FitsNeed k nothing ⊎ ((cause : ArgumentFault) × RefusesSwitch k s after value rest cause)
 middle unknown s after value rest h = inr (unknown_option s, refl)
 middle duplicate s after value rest h = inr (duplicate_option s, refl)
 middle no_text s after value rest h = inl tt
@@ -30,7 +30,7 @@ middle some_text s after value rest h = inr (option_missing_value s, (inl h, ref
 -- the last switch is given what fits, or refused
 abbrev Last : Need → Switch → Option Text → Words → Type 0
 Last k s value rest =
-    ((g : Given) × (more : Words) × (value_of g ≡ value) × (rest ≡ next_of g ++ more) × Fits k g) ⊎ ((cause : Cause) × Refuses k s [] value rest cause)
+    ((g : Supplied) × (more : Words) × (value_of g ≡ value) × (rest ≡ next_of g ++ more) × FitsNeed k g) ⊎ ((cause : ArgumentFault) × RefusesSwitch k s [] value rest cause)
 
 last : (k : Need) (s : Switch) (value : Option Text) (rest : Words) → Last k s value rest
 last unknown s value rest = inr (unknown_option s, refl)
@@ -44,11 +44,11 @@ last some_text s None (w ∷ ws) = inl (next w, ws, refl, refl, tt)
 -- the switches are given what fits, or one is refused
 abbrev Switches : List Parameter → List Step → List Switch → Option Text → Words → Type 0
 Switches ps before ss value rest =
-    ((g : Given) × (more : Words) × (value_of g ≡ value) × (rest ≡ next_of g ++ more) × StepsFollow ps before (give ss g))
-    ⊎ ((cause : Cause) × Refused ps before ss value rest cause)
+    ((g : Supplied) × (more : Words) × (value_of g ≡ value) × (rest ≡ next_of g ++ more) × StepsFollow ps before (give ss g))
+    ⊎ ((cause : ArgumentFault) × Refused ps before ss value rest cause)
 
-refused_here : (ps : List Parameter) (before : List Step) (s : Switch) (after : List Switch) (value : Option Text) (rest : Words) (cause : Cause) →
-    Refuses (need ps before s) s after value rest cause → Refused ps before (s ∷ after) value rest cause
+refused_here : (ps : List Parameter) (before : List Step) (s : Switch) (after : List Switch) (value : Option Text) (rest : Words) (cause : ArgumentFault) →
+    RefusesSwitch (need ps before s) s after value rest cause → Refused ps before (s ∷ after) value rest cause
 refused_here ps before s after value rest cause p =
     record {
       front = [];
@@ -56,11 +56,11 @@ refused_here ps before s after value rest cause p =
       after = after;
       whole = refl;
       reads = tt;
-      refuses = subst (λ b. Refuses (need ps b s) s after value rest cause) (sym (append-nil before)) p;
+      refuses = subst (λ b. RefusesSwitch (need ps b s) s after value rest cause) (sym (append-nil before)) p;
     }
 
-refused_later : (ps : List Parameter) (before : List Step) (s : Switch) (ss : List Switch) (value : Option Text) (rest : Words) (cause : Cause) →
-    is_open ps before ≡ true → Fits (need ps before s) nothing → Refused ps (before ++ use_switch s nothing ∷ []) ss value rest cause →
+refused_later : (ps : List Parameter) (before : List Step) (s : Switch) (ss : List Switch) (value : Option Text) (rest : Words) (cause : ArgumentFault) →
+    is_open ps before ≡ true → FitsNeed (need ps before s) nothing → Refused ps (before ++ use_switch s nothing ∷ []) ss value rest cause →
     Refused ps before (s ∷ ss) value rest cause
 refused_later ps before s ss value rest cause o f p =
     record {
@@ -69,7 +69,7 @@ refused_later ps before s ss value rest cause o f p =
       after = p.after;
       whole = ap (λ t. s ∷ t) p.whole;
       reads = ((o, f), p.reads);
-      refuses = subst (λ b. Refuses (need ps b p.switch) p.switch p.after value rest cause) (append_assoc before (use_switch s nothing ∷ []) (given_nothing p.front)) p.refuses;
+      refuses = subst (λ b. RefusesSwitch (need ps b p.switch) p.switch p.after value rest cause) (append_assoc before (use_switch s nothing ∷ []) (given_nothing p.front)) p.refuses;
     }
 
 last_of : (ps : List Parameter) (before : List Step) (s : Switch) (value : Option Text) (rest : Words) → is_open ps before ≡ true →
@@ -78,7 +78,7 @@ last_of ps before s value rest o (inl (g, more, e, f, fits)) = inl (g, more, e, 
 last_of ps before s value rest o (inr (cause, p)) = inr (cause, refused_here ps before s [] value rest cause p)
 
 more_of : (ps : List Parameter) (before : List Step) (s t : Switch) (ss : List Switch) (value : Option Text) (rest : Words) → is_open ps before ≡ true →
-    Fits (need ps before s) nothing ⊎ ((cause : Cause) × Refuses (need ps before s) s (t ∷ ss) value rest cause) →
+    FitsNeed (need ps before s) nothing ⊎ ((cause : ArgumentFault) × RefusesSwitch (need ps before s) s (t ∷ ss) value rest cause) →
     Switches ps (before ++ use_switch s nothing ∷ []) (t ∷ ss) value rest → Switches ps before (s ∷ (t ∷ ss)) value rest
 more_of ps before s t ss value rest o (inr (cause, p)) q = inr (cause, refused_here ps before s (t ∷ ss) value rest cause p)
 more_of ps before s t ss value rest o (inl fits) (inl (g, more, e, f, steps)) = inl (g, more, e, f, ((o, fits), steps))
@@ -168,8 +168,8 @@ Utf8 = AllByRecursion IsUtf8
 abbrev Onward : List Parameter → List Step → Words → Type 0
 Onward ps before words =
     Ends ps before words
-    ⊎ (((x : Piece) × (rest : Words) × (words ≡ words_of x ++ rest) × IsNamed x × StepsFollow ps before (steps_of x) × (length rest < length words) × Utf8 rest)
-    ⊎ ((cause : Cause) × BadOption ps before words cause))
+    ⊎ (((x : Piece) × (rest : Words) × (words ≡ words_of x ++ rest) × HasOptionName x × StepsFollow ps before (steps_of x) × (length rest < length words) × Utf8 rest)
+    ⊎ ((cause : ArgumentFault) × BadOption ps before words cause))
 
 plain_onward : (ps : List Parameter) (before : List Step) (w : Text) (ws : Words) → Utf8 ws → (is_open ps before && is_dashed w) ≡ false →
     (o : Option ℕ) → place ps (placed before) ≡ o → Onward ps before (w ∷ ws)
@@ -190,7 +190,7 @@ option_onward ps before w ws n value u o named e (inl (g, more, f, h, steps)) =
       utf8_more g ws more h u,
     ))
   where
-    utf8_more : (g : Given) (ws more : Words) → ws ≡ next_of g ++ more → Utf8 ws → Utf8 more
+    utf8_more : (g : Supplied) (ws more : Words) → ws ≡ next_of g ++ more → Utf8 ws → Utf8 more
     utf8_more nothing ws more h u = subst Utf8 h u
     utf8_more (equals v) ws more h u = subst Utf8 h u
     utf8_more (next w) ws more h u = let t = subst Utf8 h u in t.1
@@ -219,16 +219,16 @@ onward ps before (w ∷ ws) u = word_onward ps before w ws u.0 u.1 (is_open ps b
 abbrev Read : List Parameter → List Step → Words → Type 0
 Read ps before words =
     (pieces : List Piece) × (rest : Words) × (words ≡ flat_map words_of pieces ++ rest) × PiecesFollow ps before pieces
-    × (Ends ps (before ++ flat_map steps_of pieces) rest ⊎ ((cause : Cause) × BadOption ps (before ++ flat_map steps_of pieces) rest cause))
+    × (Ends ps (before ++ flat_map steps_of pieces) rest ⊎ ((cause : ArgumentFault) × BadOption ps (before ++ flat_map steps_of pieces) rest cause))
 
-read_more : (ps : List Parameter) (before : List Step) (words rest : Words) (x : Piece) → words ≡ words_of x ++ rest → IsNamed x → StepsFollow ps before (steps_of x) →
+read_more : (ps : List Parameter) (before : List Step) (words rest : Words) (x : Piece) → words ≡ words_of x ++ rest → HasOptionName x → StepsFollow ps before (steps_of x) →
     Read ps (before ++ steps_of x) rest → Read ps before words
 read_more ps before words rest x e w s (xs, after, f, p, q) = (
   x ∷ xs,
   after,
   e ∙ ap (λ t. words_of x ++ t) f ∙ sym (append_assoc (words_of x) (flat_map words_of xs) after),
   (w, s, p),
-  subst (λ b. Ends ps b after ⊎ ((cause : Cause) × BadOption ps b after cause)) (append_assoc before (steps_of x) (flat_map steps_of xs)) q,
+  subst (λ b. Ends ps b after ⊎ ((cause : ArgumentFault) × BadOption ps b after cause)) (append_assoc before (steps_of x) (flat_map steps_of xs)) q,
 )
 
 read_on : (fuel : ℕ) → ((ps : List Parameter) (before : List Step) (words : Words) → length words < fuel → Utf8 words → Read ps before words) →
@@ -261,7 +261,7 @@ groups_of ps steps j (suc n) =
 abbrev TailOr : List Parameter → Words → Type 0
 TailOr ps words =
     ((tail : Words) × (after : Words) × (found : ℕ) × (groups : List Words) × (words ≡ tail ++ after) × IsTail ps tail after found groups)
-    ⊎ ((cause : Cause) × NoTail ps words cause)
+    ⊎ ((cause : ArgumentFault) × NoTail ps words cause)
 
 tail_of : (ps : List Parameter) (words : Words) → Read ps [] words → TailOr ps words
 tail_of ps words (xs, rest, e, p, inl ends) =
@@ -293,10 +293,10 @@ tail_or_fault ps words u = tail_of ps words (read (suc (length words)) ps [] wor
 abbrev ReadingOr : CountFault → List Parameter → Words → Type 0
 ReadingOr counts ps words =
     ((tail : Words) × (after : Words) × (groups : List Words) × (words ≡ tail ++ after) × TakesArguments counts ps tail after groups)
-    ⊎ ((cause : Cause) × Stops counts ps words cause)
+    ⊎ ((cause : ArgumentFault) × StopsTail counts ps words cause)
 
 reading_of : (counts : CountFault) (ps : List Parameter) (tail after words : Words) (found : ℕ) (groups : List Words) →
-    words ≡ tail ++ after → IsTail ps tail after found groups → (o : Option Cause) → refusal counts ps groups found ≡ o → ReadingOr counts ps words
+    words ≡ tail ++ after → IsTail ps tail after found groups → (o : Option ArgumentFault) → refusal counts ps groups found ≡ o → ReadingOr counts ps words
 reading_of counts ps tail after words found groups e t None f = inl (tail, after, groups, e, record { found = found; reads = t; passes = f })
 reading_of counts ps tail after words found groups e t (Some cause) f =
     inr (cause, inr (record { tail = tail; after = after; found = found; groups = groups; whole = e; reads = t; refused = f }))

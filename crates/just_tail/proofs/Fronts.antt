@@ -9,12 +9,12 @@ use Rattle.just_ast_definitions.specs.declared.parameter.Parameter.{Parameter}
 use Rattle.just_errors.specs.declared.switch.Switch.{Switch}
 use Rattle.just_errors.specs.declared.switch.Switch.TheVariants.{Short}
 use Rattle.just_tail.specs.Words.{Words}
-use Rattle.just_tail.specs.Pieces.{OptionName, long, cluster, Given, nothing, equals, next, Piece, positional, dashes, option, option_word, value_of, next_of, words_of, switches_of, IsOptionName, IsNamed, is_dashed}
-use Rattle.just_tail.specs.Steps.{Step, use_switch, give, steps_of, is_open, Need, unknown, duplicate, no_text, some_text, need, Fits, StepsFollow, PiecesFollow, Ends}
+use Rattle.just_tail.specs.Pieces.{OptionName, long, cluster, Supplied, nothing, equals, next, Piece, positional, dashes, option, option_word, value_of, next_of, words_of, switches_of, IsOptionName, HasOptionName, is_dashed}
+use Rattle.just_tail.specs.Steps.{Step, use_switch, give, steps_of, is_open, Need, unknown, duplicate, no_text, some_text, need, FitsNeed, StepsFollow, PiecesFollow, Ends}
 use Rattle.just_tail.proofs.Names.{option_once, option_dashed, not_dashes}
 
 -- the words of an option, with those that follow
-pub option_words : (n : OptionName) (g : Given) (rest : Words) → words_of (option n g) ++ rest ≡ option_word n (value_of g) ∷ (next_of g ++ rest)
+pub option_words : (n : OptionName) (g : Supplied) (rest : Words) → words_of (option n g) ++ rest ≡ option_word n (value_of g) ∷ (next_of g ++ rest)
 option_words n g rest = refl
 
 -- a positional word does not begin with `-` where options may come
@@ -38,23 +38,23 @@ some_middle [] after s e = (cc)
 some_middle (x ∷ xs) after s e = (cc)
 
 -- before the last, a switch is given nothing
-pub give_more : (s : Switch) (ss : List Switch) (g : Given) → ss ≢ [] → give (s ∷ ss) g ≡ use_switch s nothing ∷ give ss g
+pub give_more : (s : Switch) (ss : List Switch) (g : Supplied) → ss ≢ [] → give (s ∷ ss) g ≡ use_switch s nothing ∷ give ss g
 give_more s [] g h = absurd (h refl)
 give_more s (t ∷ ss) g h = refl
 
-steps_open : (ps : List Parameter) (before : List Step) (ss : List Switch) (g : Given) → ss ≢ [] → StepsFollow ps before (give ss g) → is_open ps before ≡ true
+steps_open : (ps : List Parameter) (before : List Step) (ss : List Switch) (g : Supplied) → ss ≢ [] → StepsFollow ps before (give ss g) → is_open ps before ≡ true
 steps_open ps before [] g h p = absurd (h refl)
 steps_open ps before (s ∷ []) g h p = p.0.0
 steps_open ps before (s ∷ t ∷ ss) g h p = p.0.0
 
 -- what a switch asks for says what it is given
-clash : (k : Need) (w : Text) → Fits k nothing → Fits k (next w) → ⊥
+clash : (k : Need) (w : Text) → FitsNeed k nothing → FitsNeed k (next w) → ⊥
 clash unknown w p q = p
 clash duplicate w p q = p
 clash no_text w p q = q
 clash some_text w p q = p
 
-same_given : (k : Need) (g h : Given) (a c : Words) → Fits k g → Fits k h → value_of g ≡ value_of h → next_of g ++ a ≡ next_of h ++ c → (g ≡ h) × (a ≡ c)
+same_given : (k : Need) (g h : Supplied) (a c : Words) → FitsNeed k g → FitsNeed k h → value_of g ≡ value_of h → next_of g ++ a ≡ next_of h ++ c → (g ≡ h) × (a ≡ c)
 same_given k nothing nothing a c p q e f = (refl, f)
 same_given k nothing (equals v) a c p q e f = absurd (let x : ⊥ = (cc) in x)
 same_given k nothing (next w) a c p q e f = absurd (clash k w p q)
@@ -65,7 +65,7 @@ same_given k (next v) nothing a c p q e f = absurd (clash k v q p)
 same_given k (next v) (equals w) a c p q e f = absurd (let x : ⊥ = (cc) in x)
 same_given k (next v) (next w) a c p q e f = ((let x : v ≡ w = (cc) in ap next x), (cc))
 
-give_once : (ps : List Parameter) (before : List Step) (ss : List Switch) (g h : Given) (a c : Words) → ss ≢ [] →
+give_once : (ps : List Parameter) (before : List Step) (ss : List Switch) (g h : Supplied) (a c : Words) → ss ≢ [] →
     StepsFollow ps before (give ss g) → StepsFollow ps before (give ss h) → value_of g ≡ value_of h → next_of g ++ a ≡ next_of h ++ c → (g ≡ h) × (a ≡ c)
 give_once ps before [] g h a c some p q e f = absurd (some refl)
 give_once ps before (s ∷ []) g h a c some p q e f = same_given (need ps before s) g h a c p.0.1 q.0.1 e f
@@ -73,13 +73,13 @@ give_once ps before (s ∷ t ∷ ss) g h a c some p q e f =
     give_once ps (before ++ use_switch s nothing ∷ []) (t ∷ ss) g h a c (λ x. (cc)) p.1 q.1 e f
 
 -- words begin with at most one piece
-pub not_plain : (ps : List Parameter) (before : List Step) (w : Text) (n : OptionName) (g : Given) → w ≡ option_word n (value_of g) → IsOptionName n →
+pub not_plain : (ps : List Parameter) (before : List Step) (w : Text) (n : OptionName) (g : Supplied) → w ≡ option_word n (value_of g) → IsOptionName n →
     (is_open ps before && is_dashed w) ≡ false → StepsFollow ps before (give (switches_of n) g) → ⊥
 not_plain ps before w n g e named p q =
     plain_clash (is_open ps before) (is_dashed w) p (steps_open ps before (switches_of n) g (some_switch n named) q) (ap is_dashed e ∙ option_dashed n (value_of g) named)
 
 piece_once : (ps : List Parameter) (before : List Step) (x y : Piece) (a c : Words) → words_of x ++ a ≡ words_of y ++ c →
-    IsNamed x → IsNamed y → StepsFollow ps before (steps_of x) → StepsFollow ps before (steps_of y) → (x ≡ y) × (a ≡ c)
+    HasOptionName x → HasOptionName y → StepsFollow ps before (steps_of x) → StepsFollow ps before (steps_of y) → (x ≡ y) × (a ≡ c)
 piece_once ps before (positional v) (positional w) a c e p q f g = ((let h : v ≡ w = (cc) in ap positional h), (cc))
 piece_once ps before (positional v) dashes a c e p q f g =
     absurd (plain_clash (is_open ps before) (is_dashed v) f.0.0 g.0 (let h : v ≡ 45 ∷ (45 ∷ []) = (cc) in ap is_dashed h))
@@ -102,7 +102,7 @@ piece_once ps before (option n h) (option m k) a c e p q f g =
 
 -- what stops a tail, before words that begin with no piece
 abbrev pub Stop : List Parameter → (List Step → Words → Type 0) → Type 0
-Stop ps P = (before : List Step) (x : Piece) (t : Words) → P before (words_of x ++ t) → IsNamed x → StepsFollow ps before (steps_of x) → ⊥
+Stop ps P = (before : List Step) (x : Piece) (t : Words) → P before (words_of x ++ t) → HasOptionName x → StepsFollow ps before (steps_of x) → ⊥
 
 -- no piece begins where a tail ends
 pub ends_first : (ps : List Parameter) → Stop ps (Ends ps)

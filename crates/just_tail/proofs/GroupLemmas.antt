@@ -12,9 +12,9 @@ use Rattle.just_errors.specs.declared.switch.Switch.{Switch}
 use Rattle.just_tail.specs.declared.progress.Progress.{Progress}
 use Rattle.just_tail.specs.Words.{Words, shown}
 use Rattle.just_tail.specs.Options.{option_of, has_options, place}
-use Rattle.just_tail.specs.Pieces.{Given}
+use Rattle.just_tail.specs.Pieces.{Supplied}
 use Rattle.just_tail.specs.Steps.{Step, take_word, close_options, use_switch, placed, is_closed, text_given, Uses, use_at, use_by, uses_from, group}
-use Rattle.just_tail.specs.Reader.{Stands}
+use Rattle.just_tail.specs.Reader.{HasRead}
 
 -- a word more in one group
 pub shown_pushed_at : (xs : List (Vec (Bor Text) Global)) (i : ℕ) (old new : Vec (Bor Text) Global) (w : Bor Text) → i < length xs →
@@ -104,10 +104,10 @@ and_false false b e = refl
 
 -- a step more whose parameter gains a text
 stands_text : (ps : List Parameter) (before : List Step) (x : Step) (old new : Progress) (j : ℕ) (text : Text) →
-    uses_from ps (placed before) (x ∷ []) ≡ (j, text) ∷ [] → is_closed (x ∷ []) ≡ false → j < length ps → Stands ps before old →
+    uses_from ps (placed before) (x ∷ []) ≡ (j, text) ∷ [] → is_closed (x ∷ []) ≡ false → j < length ps → HasRead ps before old →
     new.opened ≡ old.opened → new.placed ≡ old.placed + placed (x ∷ []) →
     shown new.groups.items ≡ set (shown old.groups.items) j (get_or (shown old.groups.items) j [] ++ text ∷ []) →
-    Stands ps (before ++ x ∷ []) new
+    HasRead ps (before ++ x ∷ []) new
 stands_text ps before x old new j text e open_still small s f g pushed =
     let within : j < length (shown old.groups.items) = let h = s.groups in omega arith in
     record {
@@ -121,28 +121,28 @@ stands_text ps before x old new j text e open_still small s f g pushed =
 
 -- a positional word more
 pub stands_take : (ps : List Parameter) (before : List Step) (w : Text) (old new : Progress) (j : ℕ) →
-    place ps (placed before) ≡ Some j → j < length ps → Stands ps before old →
+    place ps (placed before) ≡ Some j → j < length ps → HasRead ps before old →
     new.opened ≡ old.opened → new.placed ≡ old.placed + 1 →
     shown new.groups.items ≡ set (shown old.groups.items) j (get_or (shown old.groups.items) j [] ++ w ∷ []) →
-    Stands ps (before ++ take_word w ∷ []) new
+    HasRead ps (before ++ take_word w ∷ []) new
 stands_take ps before w old new j e small s f g pushed =
     let one : placed (take_word w ∷ []) ≡ 1 = let h : 0 + 1 ≡ 1 = omega arith in h in
     stands_text ps before (take_word w) old new j w (ap (λ o. use_at o w ++ []) e) refl small s f (g ∙ ap (λ n. old.placed + n) (sym one)) pushed
 
 -- a switch more
-pub stands_use : (ps : List Parameter) (before : List Step) (s : Switch) (g : Given) (old new : Progress) (j : ℕ) (p : Parameter) (text : Text) →
-    option_of ps s ≡ Some (j, p) → text ≡ text_given g → j < length ps → Stands ps before old →
+pub stands_use : (ps : List Parameter) (before : List Step) (s : Switch) (g : Supplied) (old new : Progress) (j : ℕ) (p : Parameter) (text : Text) →
+    option_of ps s ≡ Some (j, p) → text ≡ text_given g → j < length ps → HasRead ps before old →
     new.opened ≡ old.opened → new.placed ≡ old.placed →
     shown new.groups.items ≡ set (shown old.groups.items) j (get_or (shown old.groups.items) j [] ++ text ∷ []) →
-    Stands ps (before ++ use_switch s g ∷ []) new
+    HasRead ps (before ++ use_switch s g ∷ []) new
 stands_use ps before s g old new j p text e f small stands o c pushed =
     let none : old.placed ≡ old.placed + 0 = omega arith in
     stands_text ps before (use_switch s g) old new j text
     (ap (λ x. use_by x (text_given g) ++ []) e ∙ ap (λ t. (j, t) ∷ []) (sym f)) refl small stands o (c ∙ none) pushed
 
 -- the `--`
-pub stands_close : (ps : List Parameter) (before : List Step) (old new : Progress) → Stands ps before old →
-    new.opened ≡ false → new.placed ≡ old.placed → new.groups ≡ old.groups → Stands ps (before ++ close_options ∷ []) new
+pub stands_close : (ps : List Parameter) (before : List Step) (old new : Progress) → HasRead ps before old →
+    new.opened ≡ false → new.placed ≡ old.placed → new.groups ≡ old.groups → HasRead ps (before ++ close_options ∷ []) new
 stands_close ps before old new s o c same =
     let none : placed before ≡ placed before + 0 = omega arith in
     let shows : shown new.groups.items ≡ shown old.groups.items = ap (λ g. shown g.items) same in

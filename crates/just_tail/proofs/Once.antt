@@ -5,7 +5,7 @@ use Rattle.just_ast_definitions.specs.declared.parameter.Parameter.{Parameter}
 use Rattle.just_tail.specs.Words.{Words, shown}
 use Rattle.just_tail.specs.Pieces.{words_of}
 use Rattle.just_tail.specs.Steps.{steps_of, placed, group_of, Ends}
-use Rattle.just_tail.specs.Cause.{Cause}
+use Rattle.just_tail.specs.Cause.{ArgumentFault}
 use Rattle.just_tail.specs.Tail.{IsTail, BadOption, NoTail}
 use Rattle.just_tail.proofs.Fronts.{ends_first, fronts_once}
 use Rattle.just_tail.proofs.Refusals.{ends_bad, bad_first, bad_once}
@@ -36,7 +36,7 @@ tail_once ps tail other after rest found more groups shown e p q =
     )
 
 -- words that begin with a tail have no fault of one
-pub tail_no_fault : (ps : List Parameter) (tail after : Words) (found : ℕ) (groups : List Words) (cause : Cause) →
+pub tail_no_fault : (ps : List Parameter) (tail after : Words) (found : ℕ) (groups : List Words) (cause : ArgumentFault) →
     IsTail ps tail after found groups → NoTail ps (tail ++ after) cause → ⊥
 tail_no_fault ps tail after found groups cause p q =
     let r = fronts_once ps (Ends ps) (λ before words. BadOption ps before words cause) (ends_first ps) (bad_first ps cause) [] p.pieces q.pieces after q.rest
@@ -45,7 +45,7 @@ tail_no_fault ps tail after found groups cause p q =
     (subst (λ b. Ends ps b q.rest) (ap (flat_map steps_of) r.0) (subst (Ends ps (flat_map steps_of p.pieces)) r.1 p.ends)) q.bad
 
 -- words have at most one fault of a tail
-pub fault_once : (ps : List Parameter) (words : Words) (a b : Cause) → NoTail ps words a → NoTail ps words b → a ≡ b
+pub fault_once : (ps : List Parameter) (words : Words) (a b : ArgumentFault) → NoTail ps words a → NoTail ps words b → a ≡ b
 fault_once ps words a b p q =
     let r = fronts_once ps (λ before ws. BadOption ps before ws a) (λ before ws. BadOption ps before ws b) (bad_first ps a) (bad_first ps b) [] p.pieces q.pieces p.rest q.rest
     (sym p.whole ∙ q.whole) p.reads q.reads p.bad q.bad in

@@ -10,29 +10,29 @@ use Rattle.just_tail.specs.declared.error.TailError.{TailError}
 use Rattle.just_tail.specs.declared.progress.Progress.{Progress}
 use Rattle.just_tail.specs.Words.{Words, shown}
 use Rattle.just_tail.specs.Options.{option_of, has_options}
-use Rattle.just_tail.specs.Pieces.{Given, nothing, equals, next, value_of, next_of, letters}
-use Rattle.just_tail.specs.Steps.{Step, take_word, close_options, use_switch, give, is_closed, is_open, text_given, Need, unknown, duplicate, no_text, some_text, asks, need, Fits, IsNext, StepsFollow}
-use Rattle.just_tail.specs.Cause.{Cause}
-use Rattle.just_tail.specs.Tail.{Refuses, given_nothing, Refused}
-use Rattle.just_tail.specs.Reader.{Stands, HoldsAfter, HoldsOpen}
+use Rattle.just_tail.specs.Pieces.{Supplied, nothing, equals, next, value_of, next_of, letters}
+use Rattle.just_tail.specs.Steps.{Step, take_word, close_options, use_switch, give, is_closed, is_open, text_given, Need, unknown, duplicate, no_text, some_text, asks, need, FitsNeed, IsNext, StepsFollow}
+use Rattle.just_tail.specs.Cause.{ArgumentFault}
+use Rattle.just_tail.specs.Tail.{RefusesSwitch, given_nothing, Refused}
+use Rattle.just_tail.specs.Reader.{HasRead, HoldsAfter, HoldsOpen}
 use Rattle.just_tail.proofs.Outcomes.{IfOk_then}
 use Rattle.just_tail.proofs.GroupLemmas.{stands_use}
 
 -- a switch that is given what it asks for
-pub used : (ps : List Parameter) (before : List Step) (s : Switch) (g : Given) (takes : Bool) (old new : Progress) (j : ℕ) (text : Text) →
-    need ps before s ≡ asks takes → Fits (asks takes) g → (p : Parameter) × (option_of ps s ≡ Some (j, p)) → text ≡ text_given g → j < length ps →
-    Stands ps before old → new.opened ≡ old.opened → new.placed ≡ old.placed →
+pub used : (ps : List Parameter) (before : List Step) (s : Switch) (g : Supplied) (takes : Bool) (old new : Progress) (j : ℕ) (text : Text) →
+    need ps before s ≡ asks takes → FitsNeed (asks takes) g → (p : Parameter) × (option_of ps s ≡ Some (j, p)) → text ≡ text_given g → j < length ps →
+    HasRead ps before old → new.opened ≡ old.opened → new.placed ≡ old.placed →
     shown new.groups.items ≡ set (shown old.groups.items) j (get_or (shown old.groups.items) j [] ++ text ∷ []) →
-    Fits (need ps before s) g × Stands ps (before ++ use_switch s g ∷ []) new
+    FitsNeed (need ps before s) g × HasRead ps (before ++ use_switch s g ∷ []) new
 used ps before s g takes old new j text e fits p f small stands o c pushed =
-    (subst (λ k. Fits k g) (sym e) fits, stands_use ps before s g old new j p.0 text p.1 f small stands o c pushed)
+    (subst (λ k. FitsNeed k g) (sym e) fits, stands_use ps before s g old new j p.0 text p.1 f small stands o c pushed)
 
 -- none of no words
 pub take_none : {X : Type 0} (n : ℕ) → take {A = X} n [] ≡ []
 take_none zero = refl
 take_none (suc n) = refl
 
-given_none : (g : Given) (n : ℕ) (rest : List (Bor Text)) → value_of g ≡ None → next_of g ≡ texts (take n []) → g ≡ nothing
+given_none : (g : Supplied) (n : ℕ) (rest : List (Bor Text)) → value_of g ≡ None → next_of g ≡ texts (take n []) → g ≡ nothing
 given_none nothing n rest e f = refl
 given_none (equals v) n rest e f = (cc)
 given_none (next w) n rest e f = let h : (w ∷ []) ≡ [] = f ∙ ap texts (take_none n) in (cc)
@@ -58,7 +58,7 @@ steps_push ps before (y ∷ ys) x p q =
     (p.0, steps_push ps (before ++ y ∷ []) ys x p.1 (subst (λ b. IsNext ps b x) (sym (append_assoc before (y ∷ []) ys)) q))
 
 -- the last switch is given that
-pub give_snoc : (front : List Switch) (s : Switch) (g : Given) → give (front ++ s ∷ []) g ≡ given_nothing front ++ use_switch s g ∷ []
+pub give_snoc : (front : List Switch) (s : Switch) (g : Supplied) → give (front ++ s ∷ []) g ≡ given_nothing front ++ use_switch s g ∷ []
 give_snoc [] s g = refl
 give_snoc (x ∷ []) s g = refl
 give_snoc (x ∷ y ∷ ys) s g = ap (λ t. use_switch x nothing ∷ t) (give_snoc (y ∷ ys) s g)
@@ -78,29 +78,29 @@ shorts_cut cs i c after h e =
     ∙ append_assoc (letters (take i cs)) (Short c ∷ letters (drop (i + 1) cs)) after
 
 -- a switch more that is given what fits
-pub step_more : (ps : List Parameter) (before steps : List Step) (s : Switch) (g : Given) (new : Progress) → is_open ps before ≡ true → is_open ps (before ++ steps) ≡ true →
-    StepsFollow ps before steps → Fits (need ps (before ++ steps) s) g → Stands ps ((before ++ steps) ++ use_switch s g ∷ []) new →
-    StepsFollow ps before (steps ++ use_switch s g ∷ []) × Stands ps (before ++ (steps ++ use_switch s g ∷ [])) new
+pub step_more : (ps : List Parameter) (before steps : List Step) (s : Switch) (g : Supplied) (new : Progress) → is_open ps before ≡ true → is_open ps (before ++ steps) ≡ true →
+    StepsFollow ps before steps → FitsNeed (need ps (before ++ steps) s) g → HasRead ps ((before ++ steps) ++ use_switch s g ∷ []) new →
+    StepsFollow ps before (steps ++ use_switch s g ∷ []) × HasRead ps (before ++ (steps ++ use_switch s g ∷ [])) new
 step_more ps before steps s g new first opened reads fits stands =
-    (steps_push ps before steps (use_switch s g) reads (opened, fits), subst (λ b. Stands ps b new) (append_assoc before steps (use_switch s g ∷ [])) stands)
+    (steps_push ps before steps (use_switch s g) reads (opened, fits), subst (λ b. HasRead ps b new) (append_assoc before steps (use_switch s g ∷ [])) stands)
 
 -- one switch of the front more
-pub front_more : (ps : List Parameter) (before : List Step) (cs : List ℕ) (i c n : ℕ) (g : Given) (new : Progress) → i < length cs → c ≡ get_or cs i c → is_open ps before ≡ true →
+pub front_more : (ps : List Parameter) (before : List Step) (cs : List ℕ) (i c n : ℕ) (g : Supplied) (new : Progress) → i < length cs → c ≡ get_or cs i c → is_open ps before ≡ true →
     StepsFollow ps before (given_nothing (letters (take i cs))) → value_of g ≡ None → next_of g ≡ texts (take n []) →
-    Fits (need ps (before ++ given_nothing (letters (take i cs))) (Short c)) g →
-    Stands ps ((before ++ given_nothing (letters (take i cs))) ++ use_switch (Short c) g ∷ []) new →
-    StepsFollow ps before (given_nothing (letters (take (i + 1) cs))) × Stands ps (before ++ given_nothing (letters (take (i + 1) cs))) new
+    FitsNeed (need ps (before ++ given_nothing (letters (take i cs))) (Short c)) g →
+    HasRead ps ((before ++ given_nothing (letters (take i cs))) ++ use_switch (Short c) g ∷ []) new →
+    StepsFollow ps before (given_nothing (letters (take (i + 1) cs))) × HasRead ps (before ++ given_nothing (letters (take (i + 1) cs))) new
 front_more ps before cs i c n g new h e opened reads v w fits stands =
     let none = given_none g n [] v w in
     let r = step_more ps before (given_nothing (letters (take i cs))) (Short c) nothing new opened (open_more ps before (letters (take i cs)) opened) reads
-    (subst (Fits (need ps (before ++ given_nothing (letters (take i cs))) (Short c))) none fits)
-    (subst (λ k. Stands ps ((before ++ given_nothing (letters (take i cs))) ++ use_switch (Short c) k ∷ []) new) none stands) in
+    (subst (FitsNeed (need ps (before ++ given_nothing (letters (take i cs))) (Short c))) none fits)
+    (subst (λ k. HasRead ps ((before ++ given_nothing (letters (take i cs))) ++ use_switch (Short c) k ∷ []) new) none stands) in
     let more : given_nothing (letters (take (i + 1) cs)) ≡ given_nothing (letters (take i cs)) ++ use_switch (Short c) nothing ∷ [] =
     ap given_nothing (shorts_snoc cs i c h e) ∙ given_snoc (letters (take i cs)) (Short c) in
-    (subst (StepsFollow ps before) (sym more) r.0, subst (λ xs. Stands ps (before ++ xs) new) (sym more) r.1)
+    (subst (StepsFollow ps before) (sym more) r.0, subst (λ xs. HasRead ps (before ++ xs) new) (sym more) r.1)
 
-refuses_middle : (k : Need) (s : Switch) (after : List Switch) (value : Option Text) (rest : Words) (cause : Cause) → after ≢ [] →
-    Refuses k s [] None [] cause → Refuses k s after value rest cause
+refuses_middle : (k : Need) (s : Switch) (after : List Switch) (value : Option Text) (rest : Words) (cause : ArgumentFault) → after ≢ [] →
+    RefusesSwitch k s [] None [] cause → RefusesSwitch k s after value rest cause
 refuses_middle unknown s after value rest cause some p = p
 refuses_middle duplicate s after value rest cause some p = p
 refuses_middle no_text s after value rest cause some p = absurd (p.1 refl)
@@ -111,9 +111,9 @@ more_after [] after h e = h e
 more_after (x ∷ xs) after h e = (cc)
 
 -- a switch of the front is refused
-pub front_refused : (ps : List Parameter) (before : List Step) (cs : List ℕ) (i c : ℕ) (cause : Cause) → i < length cs → c ≡ get_or cs i c →
+pub front_refused : (ps : List Parameter) (before : List Step) (cs : List ℕ) (i c : ℕ) (cause : ArgumentFault) → i < length cs → c ≡ get_or cs i c →
     StepsFollow ps before (given_nothing (letters (take i cs))) →
-    Refuses (need ps (before ++ given_nothing (letters (take i cs))) (Short c)) (Short c) [] None [] cause →
+    RefusesSwitch (need ps (before ++ given_nothing (letters (take i cs))) (Short c)) (Short c) [] None [] cause →
     (after : List Switch) (value : Option Text) (rest : Words) → after ≢ [] → Refused ps before (letters cs ++ after) value rest cause
 front_refused ps before cs i c cause h e reads refuses after value rest some =
     record {
@@ -130,25 +130,25 @@ shorts_last : (cs front : List ℕ) (last : ℕ) → cs ≡ front ++ last ∷ []
 shorts_last cs front last e = ap letters e ∙ map-append Short front (last ∷ [])
 
 -- the last switch of a cluster
-pub last_more : (ps : List Parameter) (before : List Step) (cs front : List ℕ) (last : ℕ) (g : Given) (new : Progress) → cs ≡ front ++ last ∷ [] → is_open ps before ≡ true →
+pub last_more : (ps : List Parameter) (before : List Step) (cs front : List ℕ) (last : ℕ) (g : Supplied) (new : Progress) → cs ≡ front ++ last ∷ [] → is_open ps before ≡ true →
     StepsFollow ps before (given_nothing (letters front)) →
-    Fits (need ps (before ++ given_nothing (letters front)) (Short last)) g →
-    Stands ps ((before ++ given_nothing (letters front)) ++ use_switch (Short last) g ∷ []) new →
-    StepsFollow ps before (give (letters cs) g) × Stands ps (before ++ give (letters cs) g) new
+    FitsNeed (need ps (before ++ given_nothing (letters front)) (Short last)) g →
+    HasRead ps ((before ++ given_nothing (letters front)) ++ use_switch (Short last) g ∷ []) new →
+    StepsFollow ps before (give (letters cs) g) × HasRead ps (before ++ give (letters cs) g) new
 last_more ps before cs front last g new e opened reads fits stands =
     let r = step_more ps before (given_nothing (letters front)) (Short last) g new opened (open_more ps before (letters front) opened) reads fits stands in
     let more : give (letters cs) g ≡ given_nothing (letters front) ++ use_switch (Short last) g ∷ [] =
     ap (λ ss. give ss g) (shorts_last cs front last e) ∙ give_snoc (letters front) (Short last) g in
-    (subst (StepsFollow ps before) (sym more) r.0, subst (λ xs. Stands ps (before ++ xs) new) (sym more) r.1)
+    (subst (StepsFollow ps before) (sym more) r.0, subst (λ xs. HasRead ps (before ++ xs) new) (sym more) r.1)
 
 -- a cluster whose last switch is given what fits, after the others are given nothing
 pub cluster_read : (ps : List Parameter) (old middle new : Progress) (cs front : List ℕ) (last : ℕ) (value : Option Text) (rest : List (Bor Text)) (r : Result ℕ TailError) →
     cs ≡ front ++ last ∷ [] →
-    HoldsOpen ps old (λ before. StepsFollow ps before (given_nothing (letters front)) × Stands ps (before ++ given_nothing (letters front)) middle) →
-    IfOk r (λ n. HoldsAfter ps middle (λ before. (g : Given) × (value_of g ≡ value) × (next_of g ≡ texts (take n rest)) × Fits (need ps before (Short last)) g
-    × Stands ps (before ++ use_switch (Short last) g ∷ []) new)) →
-    IfOk r (λ n. HoldsOpen ps old (λ before. (g : Given) × (value_of g ≡ value) × (next_of g ≡ texts (take n rest)) × StepsFollow ps before (give (letters cs) g)
-    × Stands ps (before ++ give (letters cs) g) new))
+    HoldsOpen ps old (λ before. StepsFollow ps before (given_nothing (letters front)) × HasRead ps (before ++ given_nothing (letters front)) middle) →
+    IfOk r (λ n. HoldsAfter ps middle (λ before. (g : Supplied) × (value_of g ≡ value) × (next_of g ≡ texts (take n rest)) × FitsNeed (need ps before (Short last)) g
+    × HasRead ps (before ++ use_switch (Short last) g ∷ []) new)) →
+    IfOk r (λ n. HoldsOpen ps old (λ before. (g : Supplied) × (value_of g ≡ value) × (next_of g ≡ texts (take n rest)) × StepsFollow ps before (give (letters cs) g)
+    × HasRead ps (before ++ give (letters cs) g) new))
 cluster_read ps old middle new cs front last value rest r whole first given =
     IfOk_then r given
     (λ n p before stands opened.
@@ -158,9 +158,9 @@ cluster_read ps old middle new cs front last value rest r whole first given =
     (u.0, u.1, u.2, m.0, m.1))
 
 -- the last switch of a cluster is refused
-pub last_refused : (ps : List Parameter) (before : List Step) (cs front : List ℕ) (last : ℕ) (value : Option Text) (rest : Words) (cause : Cause) → cs ≡ front ++ last ∷ [] →
+pub last_refused : (ps : List Parameter) (before : List Step) (cs front : List ℕ) (last : ℕ) (value : Option Text) (rest : Words) (cause : ArgumentFault) → cs ≡ front ++ last ∷ [] →
     StepsFollow ps before (given_nothing (letters front)) →
-    Refuses (need ps (before ++ given_nothing (letters front)) (Short last)) (Short last) [] value rest cause →
+    RefusesSwitch (need ps (before ++ given_nothing (letters front)) (Short last)) (Short last) [] value rest cause →
     Refused ps before (letters cs) value rest cause
 last_refused ps before cs front last value rest cause e reads refuses =
     record {
@@ -173,8 +173,8 @@ last_refused ps before cs front last value rest cause e reads refuses =
     }
 
 -- the only switch of an option is refused
-pub single_refused : (ps : List Parameter) (before : List Step) (s : Switch) (value : Option Text) (rest : Words) (cause : Cause) →
-    Refuses (need ps before s) s [] value rest cause → Refused ps before (s ∷ []) value rest cause
+pub single_refused : (ps : List Parameter) (before : List Step) (s : Switch) (value : Option Text) (rest : Words) (cause : ArgumentFault) →
+    RefusesSwitch (need ps before s) s [] value rest cause → Refused ps before (s ∷ []) value rest cause
 single_refused ps before s value rest cause p =
     record {
       front = [];
@@ -182,5 +182,5 @@ single_refused ps before s value rest cause p =
       after = [];
       whole = refl;
       reads = tt;
-      refuses = subst (λ b. Refuses (need ps b s) s [] value rest cause) (sym (append-nil before)) p;
+      refuses = subst (λ b. RefusesSwitch (need ps b s) s [] value rest cause) (sym (append-nil before)) p;
     }

@@ -2,9 +2,9 @@
 use Rattle.std.proofs.Common.{◌≡◌, inl, inr, ℕ, List, ◌++◌, Some, None, sym, ap, ◌∙◌, subst}
 use Rattle.just_ast_definitions.specs.declared.parameter.Parameter.{Parameter}
 use Rattle.just_tail.specs.Words.{Words, shown}
-use Rattle.just_tail.specs.Cause.{Cause}
+use Rattle.just_tail.specs.Cause.{ArgumentFault}
 use Rattle.just_tail.specs.Tail.{NoTail}
-use Rattle.just_tail.specs.Checks.{CountFault, refusal, TakesArguments, Stops}
+use Rattle.just_tail.specs.Checks.{CountFault, refusal, TakesArguments, StopsTail}
 use Rattle.just_tail.proofs.Once.{tail_once, tail_no_fault, fault_once}
 
 -- words begin with arguments in at most one way
@@ -20,8 +20,8 @@ same_refusal : (counts : CountFault) (ps : List Parameter) (groups shown : List 
 same_refusal counts ps groups shown found more e f = ap (λ gs. refusal counts ps gs found) e ∙ ap (refusal counts ps shown) f
 
 -- words that begin with arguments are not refused
-pub reading_no_stop : (counts : CountFault) (ps : List Parameter) (tail after : Words) (groups : List Words) (cause : Cause) →
-    TakesArguments counts ps tail after groups → Stops counts ps (tail ++ after) cause → ⊥
+pub reading_no_stop : (counts : CountFault) (ps : List Parameter) (tail after : Words) (groups : List Words) (cause : ArgumentFault) →
+    TakesArguments counts ps tail after groups → StopsTail counts ps (tail ++ after) cause → ⊥
 reading_no_stop counts ps tail after groups cause p (inl q) = tail_no_fault ps tail after p.found groups cause p.reads q
 reading_no_stop counts ps tail after groups cause p (inr q) =
     let r = tail_once ps tail q.tail after q.after p.found q.found groups q.groups q.whole p.reads q.reads in
@@ -29,8 +29,8 @@ reading_no_stop counts ps tail after groups cause p (inr q) =
     (cc)
 
 -- words are refused for at most one cause
-pub stop_once : (counts : CountFault) (ps : List Parameter) (words : Words) (a b : Cause) →
-    Stops counts ps words a → Stops counts ps words b → a ≡ b
+pub stop_once : (counts : CountFault) (ps : List Parameter) (words : Words) (a b : ArgumentFault) →
+    StopsTail counts ps words a → StopsTail counts ps words b → a ≡ b
 stop_once counts ps words a b (inl p) (inl q) = fault_once ps words a b p q
 stop_once counts ps words a b (inl p) (inr q) =
     absurd (tail_no_fault ps q.tail q.after q.found q.groups a q.reads (subst (λ ws. NoTail ps ws a) q.whole p))

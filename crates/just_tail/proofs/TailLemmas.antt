@@ -7,10 +7,10 @@ use Rattle.just_names.specs.Texts.{Text, texts}
 use Rattle.just_ast_definitions.specs.declared.parameter.Parameter.{Parameter}
 use Rattle.just_tail.specs.declared.progress.Progress.{Progress}
 use Rattle.just_tail.specs.Words.{Words, shown}
-use Rattle.just_tail.specs.Pieces.{Piece, words_of, IsNamed}
+use Rattle.just_tail.specs.Pieces.{Piece, words_of, HasOptionName}
 use Rattle.just_tail.specs.Steps.{Step, steps_of, StepsFollow, PiecesFollow, Ends}
 use Rattle.just_tail.specs.Tail.{IsTail}
-use Rattle.just_tail.specs.Reader.{Stands}
+use Rattle.just_tail.specs.Reader.{HasRead}
 use Rattle.just_tail.proofs.OptionLemmas.{take_none}
 
 -- the first of some words, and the others
@@ -35,7 +35,7 @@ pub texts_cut : (n : ℕ) (words : List (Bor Text)) → texts words ≡ texts (t
 texts_cut n words = ap texts (sym (take-append-drop n words)) ∙ map-append (λ w. w.now) (take n words) (drop n words)
 
 -- a piece more
-pub pieces_push : (ps : List Parameter) (before : List Step) (xs : List Piece) (x : Piece) → PiecesFollow ps before xs → IsNamed x →
+pub pieces_push : (ps : List Parameter) (before : List Step) (xs : List Piece) (x : Piece) → PiecesFollow ps before xs → HasOptionName x →
     StepsFollow ps (before ++ flat_map steps_of xs) (steps_of x) → PiecesFollow ps before (xs ++ x ∷ [])
 pieces_push ps before [] x p w q = (w, subst (λ b. StepsFollow ps b (steps_of x)) (append-nil before) q, tt)
 pieces_push ps before (y ∷ ys) x p w q =
@@ -57,7 +57,7 @@ ends_at_end ps before words t h = subst (λ ws. Ends ps before (texts ws)) (sym 
 
 -- the words that were read are a tail, where it ends
 pub tail_read : (ps : List Parameter) (words : List (Bor Text)) (t : ℕ) (pieces : List Piece) (p : Progress) →
-    texts (take t words) ≡ flat_map words_of pieces → PiecesFollow ps [] pieces → Stands ps (flat_map steps_of pieces) p →
+    texts (take t words) ≡ flat_map words_of pieces → PiecesFollow ps [] pieces → HasRead ps (flat_map steps_of pieces) p →
     Ends ps (flat_map steps_of pieces) (texts (drop t words)) → IsTail ps (texts (take t words)) (texts (drop t words)) p.placed (shown p.groups.items)
 tail_read ps words t pieces p e reads stands ends =
     record {

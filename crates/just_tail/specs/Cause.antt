@@ -7,19 +7,19 @@ use Rattle.just_tail.specs.declared.error.TailError.{TailError}
 use Rattle.just_tail.specs.declared.error.TailError.TheVariants as error
 
 -- why words are no arguments, with the fields of the error that says it
-pub data Cause : Type 0 where
-  invalid_option : Text → Cause
-  unknown_option : Switch → Cause
-  duplicate_option : Switch → Cause
-  flag_with_value : Switch → Cause
-  option_missing_value : Switch → Cause
-  missing_option : Switch → Cause
-  count_mismatch : ℕ → ℕ → ℕ → Cause
-  value_count : Text → Fault → Cause
-  pattern_mismatch : Text → Text → Cause
+pub data ArgumentFault : Type 0 where
+  invalid_option : Text → ArgumentFault
+  unknown_option : Switch → ArgumentFault
+  duplicate_option : Switch → ArgumentFault
+  flag_with_value : Switch → ArgumentFault
+  option_missing_value : Switch → ArgumentFault
+  missing_option : Switch → ArgumentFault
+  count_mismatch : ℕ → ℕ → ℕ → ArgumentFault
+  value_count : Text → Fault → ArgumentFault
+  pattern_mismatch : Text → Text → ArgumentFault
 
 -- what an error says of the words; want of memory says nothing
-abbrev pub cause_of : TailError → Option Cause
+abbrev pub cause_of : TailError → Option ArgumentFault
 cause_of error.Memory = None
 cause_of (error.InvalidOption argument) = Some (invalid_option argument)
 cause_of (error.UnknownOption switch) = Some (unknown_option switch)

@@ -9,7 +9,7 @@ use Rattle.just_ast_definitions.specs.Parameter.{is_option, is_required, is_vari
 use Rattle.just_ast_definitions.specs.declared.parameter.Parameter.{Parameter}
 use Rattle.just_tail.specs.Words.{Words}
 use Rattle.just_tail.specs.Options.{first_of, positionals}
-use Rattle.just_tail.specs.Cause.{Cause, missing_option, count_mismatch, value_count, pattern_mismatch}
+use Rattle.just_tail.specs.Cause.{ArgumentFault, missing_option, count_mismatch, value_count, pattern_mismatch}
 use Rattle.just_tail.specs.Tail.{IsTail, NoTail}
 use Rattle.just_errors.specs.declared.switch.Switch.{Switch}
 use Rattle.just_errors.specs.declared.switch.Switch.TheVariants.{Long, Short}
@@ -51,7 +51,7 @@ most_positionals ps =
     if list_any (λ (p : Parameter). is_variadic p.kind) (positionals ps) then 18446744073709551614 else length (positionals ps)
 
 -- what is missing: the first option, or else positional words, of which that many were found
-abbrev pub lacking : List Parameter → List Words → ℕ → Option Cause
+abbrev pub lacking : List Parameter → List Words → ℕ → Option ArgumentFault
 lacking ps groups found =
     first_of (option_map missing_option (first_missing ps groups))
     (if any_missing ps groups then Some (count_mismatch found (least_positionals ps) (most_positionals ps)) else None)
@@ -61,7 +61,7 @@ abbrev pub CountFault : Type 0
 CountFault = Parameter → Words → Option Fault
 
 -- a group that isn't empty has a right count of texts
-abbrev pub wrong_count : CountFault → Parameter → Words → Option Cause
+abbrev pub wrong_count : CountFault → Parameter → Words → Option ArgumentFault
 wrong_count counts p [] = None
 wrong_count counts p (w ∷ ws) = option_map (value_count (text_of_name p.name)) (counts p (w ∷ ws))
 
@@ -71,21 +71,21 @@ matches None text = true
 matches (Some pattern) text = is_match pattern text
 
 -- the first text that the pattern does not match
-abbrev pub wrong_pattern : Parameter → Words → Option Cause
+abbrev pub wrong_pattern : Parameter → Words → Option ArgumentFault
 wrong_pattern p group = option_map (pattern_mismatch (text_of_name p.name)) (find (λ w. not (matches p.pattern w)) group)
 
 -- why the texts of a parameter are refused; of one with a value nothing is asked
-abbrev pub unfit : CountFault → Parameter → Words → Option Cause
+abbrev pub unfit : CountFault → Parameter → Words → Option ArgumentFault
 unfit counts p group = if is_some p.value then None else first_of (wrong_count counts p group) (wrong_pattern p group)
 
 -- why those of the first that is refused are
-abbrev pub first_unfit : CountFault → List Parameter → List Words → Option Cause
+abbrev pub first_unfit : CountFault → List Parameter → List Words → Option ArgumentFault
 first_unfit counts [] groups = None
 first_unfit counts (p ∷ ps) [] = None
 first_unfit counts (p ∷ ps) (g ∷ gs) = first_of (unfit counts p g) (first_unfit counts ps gs)
 
 -- why groups are refused, by the first case that applies: what is missing, and then the texts that are there
-abbrev pub refusal : CountFault → List Parameter → List Words → ℕ → Option Cause
+abbrev pub refusal : CountFault → List Parameter → List Words → ℕ → Option ArgumentFault
 refusal counts ps groups found = first_of (lacking ps groups found) (first_unfit counts ps groups)
 
 -- the words of a tail whose groups pass, and those that follow it
@@ -95,7 +95,7 @@ pub record TakesArguments (counts : CountFault) (ps : List Parameter) (tail afte
   pub passes : refusal counts ps groups found ≡ None
 
 -- the words begin with a tail whose groups are refused
-pub record Lacks (counts : CountFault) (ps : List Parameter) (words : Words) (cause : Cause) : Type 0 where
+pub record Lacks (counts : CountFault) (ps : List Parameter) (words : Words) (cause : ArgumentFault) : Type 0 where
   pub tail : Words
   pub after : Words
   pub found : ℕ
@@ -105,5 +105,5 @@ pub record Lacks (counts : CountFault) (ps : List Parameter) (words : Words) (ca
   pub refused : refusal counts ps groups found ≡ Some cause
 
 -- why the words begin with no arguments
-abbrev pub Stops : CountFault → List Parameter → Words → Cause → Type 0
-Stops counts ps words cause = NoTail ps words cause ⊎ Lacks counts ps words cause
+abbrev pub StopsTail : CountFault → List Parameter → Words → ArgumentFault → Type 0
+StopsTail counts ps words cause = NoTail ps words cause ⊎ Lacks counts ps words cause

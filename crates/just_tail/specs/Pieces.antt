@@ -12,16 +12,16 @@ pub data OptionName : Type 0 where
   cluster : Text → OptionName
 
 -- what is given to a switch: nothing, the `V` of `=V`, or the next word
-pub data Given : Type 0 where
-  nothing : Given
-  equals : Text → Given
-  next : Text → Given
+pub data Supplied : Type 0 where
+  nothing : Supplied
+  equals : Text → Supplied
+  next : Text → Supplied
 
 -- a piece of a tail: a positional word, the `--` that is dropped, or an option, whose last switch is given something
 pub data Piece : Type 0 where
   positional : Text → Piece
   dashes : Piece
-  option : OptionName → Given → Piece
+  option : OptionName → Supplied → Piece
 
 -- the name with its dashes
 abbrev pub dashed_name : OptionName → Text
@@ -38,13 +38,13 @@ abbrev pub option_word : OptionName → Option Text → Text
 option_word name value = with_value (dashed_name name) value
 
 -- the `V` of `=V`
-abbrev pub value_of : Given → Option Text
+abbrev pub value_of : Supplied → Option Text
 value_of nothing = None
 value_of (equals v) = Some v
 value_of (next w) = None
 
 -- the next word, where that is taken
-abbrev pub next_of : Given → Words
+abbrev pub next_of : Supplied → Words
 next_of nothing = []
 next_of (equals v) = []
 next_of (next w) = w ∷ []
@@ -78,10 +78,10 @@ IsOptionName (long name) = (name ≢ []) × (has_equals name ≡ false)
 IsOptionName (cluster name) = (chars name ≢ []) × (has_equals name ≡ false) × (BeginsWithDash name → ⊥)
 
 -- the name of an option is one
-abbrev pub IsNamed : Piece → Type 0
-IsNamed (positional w) = Unit {0}
-IsNamed dashes = Unit {0}
-IsNamed (option name given) = IsOptionName name
+abbrev pub HasOptionName : Piece → Type 0
+HasOptionName (positional w) = Unit {0}
+HasOptionName dashes = Unit {0}
+HasOptionName (option name given) = IsOptionName name
 
 -- the word begins with `-` and isn't `-`
 abbrev pub is_dashed : Text → Bool

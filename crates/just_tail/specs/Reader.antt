@@ -20,14 +20,14 @@ switch_of (borrowed.Long name) = Long name.now
 switch_of (borrowed.Short c) = Short c
 
 -- the places that are looked up are those of the parameters
-pub record IsPlan (plan : Plan) : Type 0 where
+pub record IsTailPlan (plan : Plan) : Type 0 where
   pub long : (name : Text) → get bytes_eq plan.long name ≡ place_from 0 plan.parameters.now (Long name)
   pub short : (c : ℕ) → get nat_eq plan.short c ≡ place_from 0 plan.parameters.now (Short c)
   pub positions : plan.positions.items ≡ positions_from 0 plan.parameters.now
   pub variadic : plan.variadic ≡ first_variadic plan.parameters.now
 
 -- the reader has read these steps
-pub record Stands (ps : List Parameter) (before : List Step) (p : Progress) : Type 0 where
+pub record HasRead (ps : List Parameter) (before : List Step) (p : Progress) : Type 0 where
   pub opened : p.opened ≡ is_open ps before
   pub count : p.placed ≡ placed before
   pub groups : length (shown p.groups.items) ≡ length ps
@@ -35,8 +35,8 @@ pub record Stands (ps : List Parameter) (before : List Step) (p : Progress) : Ty
 
 -- it holds after whatever steps the reader has read
 abbrev pub HoldsAfter : List Parameter → Progress → (List Step → Type 0) → Type 0
-HoldsAfter ps p Fact = (before : List Step) → Stands ps before p → Fact before
+HoldsAfter ps p Fact = (before : List Step) → HasRead ps before p → Fact before
 
 -- the same where options may come
 abbrev pub HoldsOpen : List Parameter → Progress → (List Step → Type 0) → Type 0
-HoldsOpen ps p Fact = (before : List Step) → Stands ps before p → is_open ps before ≡ true → Fact before
+HoldsOpen ps p Fact = (before : List Step) → HasRead ps before p → is_open ps before ≡ true → Fact before

@@ -5,17 +5,17 @@ use Rattle.just_ast_definitions.specs.Parameter.{is_variadic}
 use Rattle.just_ast_definitions.specs.declared.parameter.Parameter.{Parameter}
 use Rattle.just_tail.specs.Words.{Words}
 use Rattle.just_tail.specs.Options.{option_of, has_options, takes_nothing, place}
-use Rattle.just_tail.specs.Pieces.{Given, nothing, equals, next, Piece, positional, dashes, option, switches_of, IsNamed, is_dashed}
+use Rattle.just_tail.specs.Pieces.{Supplied, nothing, equals, next, Piece, positional, dashes, option, switches_of, HasOptionName, is_dashed}
 use Rattle.just_errors.specs.declared.switch.Switch.{Switch}
 
 -- a step of a tail: a positional word, the `--`, or one switch with what it is given
 pub data Step : Type 0 where
   take_word : Text → Step
   close_options : Step
-  use_switch : Switch → Given → Step
+  use_switch : Switch → Supplied → Step
 
 -- the last switch is given that, the others nothing
-abbrev pub give : List Switch → Given → List Step
+abbrev pub give : List Switch → Supplied → List Step
 give [] given = []
 give (s ∷ []) given = use_switch s given ∷ []
 give (s ∷ t ∷ ss) given = use_switch s nothing ∷ give (t ∷ ss) given
@@ -45,7 +45,7 @@ abbrev pub is_open : List Parameter → List Step → Bool
 is_open ps before = has_options ps && not (is_closed before)
 
 -- the text that a switch gives to its parameter
-abbrev pub text_given : Given → Text
+abbrev pub text_given : Supplied → Text
 text_given nothing = []
 text_given (equals v) = v
 text_given (next w) = w
@@ -107,17 +107,17 @@ abbrev pub need : List Parameter → List Step → Switch → Need
 need ps before s = need_of ps before (option_of ps s)
 
 -- what is given is what is asked for
-abbrev pub Fits : Need → Given → Type 0
-Fits no_text nothing = Unit {0}
-Fits some_text (equals v) = Unit {0}
-Fits some_text (next w) = Unit {0}
-Fits _ _ = ⊥
+abbrev pub FitsNeed : Need → Supplied → Type 0
+FitsNeed no_text nothing = Unit {0}
+FitsNeed some_text (equals v) = Unit {0}
+FitsNeed some_text (next w) = Unit {0}
+FitsNeed _ _ = ⊥
 
 -- the step may come after those before it
 abbrev pub IsNext : List Parameter → List Step → Step → Type 0
 IsNext ps before (take_word w) = ((is_open ps before && is_dashed w) ≡ false) × (place ps (placed before) ≢ None)
 IsNext ps before close_options = is_open ps before ≡ true
-IsNext ps before (use_switch s given) = (is_open ps before ≡ true) × Fits (need ps before s) given
+IsNext ps before (use_switch s given) = (is_open ps before ≡ true) × FitsNeed (need ps before s) given
 
 -- the steps may come after those before them
 abbrev pub StepsFollow : List Parameter → List Step → List Step → Type 0
@@ -127,7 +127,7 @@ StepsFollow ps before (x ∷ xs) = IsNext ps before x × StepsFollow ps (before 
 -- the pieces may come after the steps before them
 abbrev pub PiecesFollow : List Parameter → List Step → List Piece → Type 0
 PiecesFollow ps before [] = Unit {0}
-PiecesFollow ps before (x ∷ xs) = IsNamed x × StepsFollow ps before (steps_of x) × PiecesFollow ps (before ++ steps_of x) xs
+PiecesFollow ps before (x ∷ xs) = HasOptionName x × StepsFollow ps before (steps_of x) × PiecesFollow ps (before ++ steps_of x) xs
 
 -- a tail ends at the end of the words, or before a positional word for which no place is left
 abbrev pub Ends : List Parameter → List Step → Words → Type 0

@@ -4,7 +4,7 @@ ghost use Rattle.just_names.specs.Texts.{texts};
 ghost use Rattle.just_parts.specs.Evaluator.{count_fault_of};
 ghost use Rattle.just_tail.specs.Words.{shown};
 ghost use Rattle.just_tail.specs.Cause.{cause_of};
-ghost use Rattle.just_tail.specs.Checks.{TakesArguments, Stops};
+ghost use Rattle.just_tail.specs.Checks.{TakesArguments, StopsTail};
 ghost use Rattle.just_tail.specs.Tail.{IsTail};
 
 use crate::checks::{check_groups, check_present};
@@ -29,7 +29,7 @@ pub fn take_arguments<'src, 'words, E: ConstantEvaluation>(
     ensures tail { IfOk result (λ t. IsTail parameters.now (texts (take t.taken words.now)) (texts (drop t.taken words.now)) t.found (shown t.groups.items)) }
     ensures ok { IfOk result (λ t. TakesArguments (count_fault_of (E.answers evaluation.now) recipe.now) parameters.now
         (texts (take t.taken words.now)) (texts (drop t.taken words.now)) (shown t.groups.items)) }
-    ensures err { IfErr result (λ e. IfSome (cause_of e) (Stops (count_fault_of (E.answers evaluation.now) recipe.now) parameters.now (texts words.now))) }
+    ensures err { IfErr result (λ e. IfSome (cause_of e) (StopsTail (count_fault_of (E.answers evaluation.now) recipe.now) parameters.now (texts words.now))) }
 {
     let tail = match read_tail(alloc, parameters, words) {
         Ok(tail) => tail,

@@ -135,7 +135,8 @@ fn check_value_count<'src, E: ConstantEvaluation>(
     group: &[&str],
 ) -> Result<(), TailError<'src>>
     ensures ok { OnOk result (wrong_count (count_fault_of (E.answers evaluation.now) recipe.now) parameter.now (texts group.now) ≡ None) }
-    ensures err { IfErr result (λ e. IfSome (cause_of e) (λ cause. wrong_count (count_fault_of (E.answers evaluation.now) recipe.now) parameter.now (texts group.now) ≡ Some cause)) }
+    ensures err { let counts = count_fault_of (E.answers evaluation.now) recipe.now in
+        IfErr result (λ e. IfSome (cause_of e) (λ cause. wrong_count counts parameter.now (texts group.now) ≡ Some cause)) }
 {
     match group {
         [] => return Ok(()),
@@ -189,7 +190,8 @@ fn check_group<'src, E: ConstantEvaluation>(
     group: &[&str],
 ) -> Result<(), TailError<'src>>
     ensures ok { OnOk result (unfit (count_fault_of (E.answers evaluation.now) recipe.now) parameter.now (texts group.now) ≡ None) }
-    ensures err { IfErr result (λ e. IfSome (cause_of e) (λ cause. unfit (count_fault_of (E.answers evaluation.now) recipe.now) parameter.now (texts group.now) ≡ Some cause)) }
+    ensures err { let counts = count_fault_of (E.answers evaluation.now) recipe.now in
+        IfErr result (λ e. IfSome (cause_of e) (λ cause. unfit counts parameter.now (texts group.now) ≡ Some cause)) }
 {
     if parameter.value.is_some() {
         return Ok(());
@@ -210,7 +212,8 @@ pub fn check_groups<'src, E: ConstantEvaluation>(
 ) -> Result<(), TailError<'src>>
     requires { length groups.now ≡ length parameters.now }
     ensures ok { OnOk result (first_unfit (count_fault_of (E.answers evaluation.now) recipe.now) parameters.now (shown groups.now) ≡ None) }
-    ensures err { IfErr result (λ e. IfSome (cause_of e) (λ cause. first_unfit (count_fault_of (E.answers evaluation.now) recipe.now) parameters.now (shown groups.now) ≡ Some cause)) }
+    ensures err { let counts = count_fault_of (E.answers evaluation.now) recipe.now in
+        IfErr result (λ e. IfSome (cause_of e) (λ cause. first_unfit counts parameters.now (shown groups.now) ≡ Some cause)) }
 {
     for (place, parameter) in parameters.iter().enumerate() {
         match check_group(parameter, alloc, evaluation, recipe, &groups[place]) {

@@ -3,9 +3,9 @@ ghost use Rattle.std.specs.Prelude.{◌≡◌, ◌⊎◌, ℕ, List, ◌++◌, I
 ghost use Rattle.std.specs.List.{AllByRecursion};
 ghost use Rattle.just_ast_definitions.specs.declared.parameter.Parameter.{Parameter};
 ghost use Rattle.just_tail.specs.Words.{Words};
-ghost use Rattle.just_tail.specs.Cause.{Cause};
+ghost use Rattle.just_tail.specs.Cause.{ArgumentFault};
 ghost use Rattle.just_tail.specs.Tail.{IsTail, NoTail};
-ghost use Rattle.just_tail.specs.Checks.{CountFault, TakesArguments, Stops};
+ghost use Rattle.just_tail.specs.Checks.{CountFault, TakesArguments, StopsTail};
 
 /// Words begin with at most one tail.
 pub fn one_tail()
@@ -16,20 +16,20 @@ pub fn one_tail()
 
 /// Words that begin with a tail have no fault of a tail.
 pub fn no_fault()
-    ensures { (ps : List Parameter) (tail after : Words) (found : ℕ) (groups : List Words) (cause : Cause)
+    ensures { (ps : List Parameter) (tail after : Words) (found : ℕ) (groups : List Words) (cause : ArgumentFault)
         → IsTail ps tail after found groups → NoTail ps (tail ++ after) cause → ⊥ }
 {}
 
 /// Words have at most one fault of a tail.
 pub fn one_fault()
-    ensures { (ps : List Parameter) (words : Words) (a b : Cause) → NoTail ps words a → NoTail ps words b → a ≡ b }
+    ensures { (ps : List Parameter) (words : Words) (a b : ArgumentFault) → NoTail ps words a → NoTail ps words b → a ≡ b }
 {}
 
 /// Texts as words begin with a tail, or have a fault of one.
 pub fn tail_or_fault()
     ensures { (ps : List Parameter) (words : Words) → AllByRecursion IsUtf8 words
         → ((tail : Words) × (after : Words) × (found : ℕ) × (groups : List Words) × (words ≡ tail ++ after) × IsTail ps tail after found groups)
-        ⊎ ((cause : Cause) × NoTail ps words cause) }
+        ⊎ ((cause : ArgumentFault) × NoTail ps words cause) }
 {}
 
 /// Words begin with arguments in at most one way.
@@ -42,19 +42,19 @@ pub fn one_reading()
 
 /// Words that begin with arguments are not refused.
 pub fn no_stop()
-    ensures { (counts : CountFault) (ps : List Parameter) (tail after : Words) (groups : List Words) (cause : Cause)
-        → TakesArguments counts ps tail after groups → Stops counts ps (tail ++ after) cause → ⊥ }
+    ensures { (counts : CountFault) (ps : List Parameter) (tail after : Words) (groups : List Words) (cause : ArgumentFault)
+        → TakesArguments counts ps tail after groups → StopsTail counts ps (tail ++ after) cause → ⊥ }
 {}
 
 /// Words are refused for at most one cause.
 pub fn one_stop()
-    ensures { (counts : CountFault) (ps : List Parameter) (words : Words) (a b : Cause)
-        → Stops counts ps words a → Stops counts ps words b → a ≡ b }
+    ensures { (counts : CountFault) (ps : List Parameter) (words : Words) (a b : ArgumentFault)
+        → StopsTail counts ps words a → StopsTail counts ps words b → a ≡ b }
 {}
 
 /// Texts as words begin with arguments, or are refused.
 pub fn reading_or_stop()
     ensures { (counts : CountFault) (ps : List Parameter) (words : Words) → AllByRecursion IsUtf8 words
         → ((tail : Words) × (after : Words) × (groups : List Words) × (words ≡ tail ++ after) × TakesArguments counts ps tail after groups)
-        ⊎ ((cause : Cause) × Stops counts ps words cause) }
+        ⊎ ((cause : ArgumentFault) × StopsTail counts ps words cause) }
 {}

@@ -5,11 +5,11 @@ ghost use Rattle.just_ast_definitions.specs.declared.parameter.Parameter.{Parame
 ghost use Rattle.just_errors.specs.declared.switch.Switch.{Switch as Named};
 ghost use Rattle.just_tail.specs.Words.{Words, value_text};
 ghost use Rattle.just_tail.specs.Options.{option_of};
-ghost use Rattle.just_tail.specs.Pieces.{OptionName, cluster, letters, Given, value_of, next_of, with_value, option_word, has_equals, is_dashed, IsOptionName, switches_of};
-ghost use Rattle.just_tail.specs.Steps.{asks, use_switch, give, may_use, need, Fits, StepsFollow};
+ghost use Rattle.just_tail.specs.Pieces.{OptionName, cluster, letters, Supplied, value_of, next_of, with_value, option_word, has_equals, is_dashed, IsOptionName, switches_of};
+ghost use Rattle.just_tail.specs.Steps.{asks, use_switch, give, may_use, need, FitsNeed, StepsFollow};
 ghost use Rattle.just_tail.specs.Cause.{invalid_option, cause_of};
-ghost use Rattle.just_tail.specs.Tail.{Refuses, Refused, BadOption, given_nothing};
-ghost use Rattle.just_tail.specs.Reader.{switch_of, IsPlan, Stands, HoldsAfter, HoldsOpen};
+ghost use Rattle.just_tail.specs.Tail.{RefusesSwitch, Refused, BadOption, given_nothing};
+ghost use Rattle.just_tail.specs.Reader.{switch_of, IsTailPlan, HasRead, HoldsAfter, HoldsOpen};
 
 use crate::error::TailError;
 use crate::groups::push_at;
@@ -73,7 +73,7 @@ fn find_option<'src>(
     progress: &Progress,
     switch: BorrowedSwitch,
 ) -> Result<(usize, bool), TailError<'src>>
-    requires plan { IsPlan plan.now }
+    requires plan { IsTailPlan plan.now }
     requires count { vec_len progress.now.groups ≡ length plan.now.parameters.now }
     ensures within { IfOk result (λ found. found.0 < length plan.now.parameters.now) }
     ensures place { IfOk result (λ found. (p : Record) × (option_of plan.now.parameters.now (switch_of switch.entry) ≡ Some (found.0, p))) }
@@ -81,7 +81,7 @@ fn find_option<'src>(
         need ps before (switch_of switch.entry) ≡ asks found.1)) }
     ensures err { let ps = plan.now.parameters.now in IfErr result (λ e. IfSome (cause_of e) (λ cause. HoldsAfter ps progress.now (λ before.
         (after : List Named) (value : Option Name) (rest : Words)
-        → Refuses (need ps before (switch_of switch.entry)) (switch_of switch.entry) after value rest cause))) }
+        → RefusesSwitch (need ps before (switch_of switch.entry)) (switch_of switch.entry) after value rest cause))) }
 {
     let Some((place, parameter)) = plan.option(switch) else {
         return Err(TailError::UnknownOption {
@@ -105,17 +105,17 @@ fn apply<'src, 'words>(
     value: Option<&'words str>,
     rest: &[&'words str],
 ) -> Result<usize, TailError<'src>>
-    requires plan { IsPlan plan.now }
+    requires plan { IsTailPlan plan.now }
     requires count { vec_len progress.old.groups ≡ length plan.now.parameters.now }
     ensures count { OnOk result (vec_len progress.new.groups ≡ length plan.now.parameters.now) }
     ensures placed { OnOk result (progress.new.placed ≡ progress.old.placed) }
     ensures within { IfOk result (λ n. n ≤ length rest.now) }
-    ensures ok { let ps = plan.now.parameters.now in IfOk result (λ n. HoldsAfter ps progress.old (λ before. (g : Given)
+    ensures ok { let ps = plan.now.parameters.now in IfOk result (λ n. HoldsAfter ps progress.old (λ before. (g : Supplied)
         × (value_of g ≡ value_text value.entry) × (next_of g ≡ texts (take n rest.now))
-        × Fits (need ps before (switch_of switch.entry)) g
-        × Stands ps (before ++ use_switch (switch_of switch.entry) g ∷ []) progress.new)) }
+        × FitsNeed (need ps before (switch_of switch.entry)) g
+        × HasRead ps (before ++ use_switch (switch_of switch.entry) g ∷ []) progress.new)) }
     ensures err { let ps = plan.now.parameters.now in IfErr result (λ e. IfSome (cause_of e) (λ cause. HoldsAfter ps progress.old (λ before.
-        Refuses (need ps before (switch_of switch.entry)) (switch_of switch.entry) [] (value_text value.entry) (texts rest.now) cause))) }
+        RefusesSwitch (need ps before (switch_of switch.entry)) (switch_of switch.entry) [] (value_text value.entry) (texts rest.now) cause))) }
 {
     let (place, takes_nothing) = find_option(plan, alloc, progress, switch)?;
     if takes_nothing {
@@ -156,12 +156,12 @@ fn apply_front<'src>(
     progress: &mut Progress,
     front: &[char],
 ) -> Result<(), TailError<'src>>
-    requires plan { IsPlan plan.now }
+    requires plan { IsTailPlan plan.now }
     requires count { vec_len progress.old.groups ≡ length plan.now.parameters.now }
     ensures count { OnOk result (vec_len progress.new.groups ≡ length plan.now.parameters.now) }
     ensures placed { OnOk result (progress.new.placed ≡ progress.old.placed) }
     ensures ok { let ps = plan.now.parameters.now in OnOk result (HoldsOpen ps progress.old (λ before.
-        StepsFollow ps before (given_nothing (letters front.now)) × Stands ps (before ++ given_nothing (letters front.now)) progress.new)) }
+        StepsFollow ps before (given_nothing (letters front.now)) × HasRead ps (before ++ given_nothing (letters front.now)) progress.new)) }
     ensures err { let ps = plan.now.parameters.now in IfErr result (λ e. IfSome (cause_of e) (λ cause. HoldsOpen ps progress.old (λ before.
         (after : List Named) (value : Option Name) (rest : Words) → after ≢ []
         → Refused ps before (letters front.now ++ after) value rest cause))) }
@@ -191,17 +191,17 @@ fn read_cluster<'src, 'words>(
     value: Option<&'words str>,
     rest: &[&'words str],
 ) -> Result<usize, TailError<'src>>
-    requires plan { IsPlan plan.now }
+    requires plan { IsTailPlan plan.now }
     requires count { vec_len progress.old.groups ≡ length plan.now.parameters.now }
     requires named { name.now ≢ [] }
     ensures count { OnOk result (vec_len progress.new.groups ≡ length plan.now.parameters.now) }
     ensures placed { OnOk result (progress.new.placed ≡ progress.old.placed) }
     ensures within { IfOk result (λ n. n ≤ length rest.now) }
     ensures some { chars name.now ≢ [] }
-    ensures ok { let ps = plan.now.parameters.now in IfOk result (λ n. HoldsOpen ps progress.old (λ before. (g : Given)
+    ensures ok { let ps = plan.now.parameters.now in IfOk result (λ n. HoldsOpen ps progress.old (λ before. (g : Supplied)
         × (value_of g ≡ value_text value.entry) × (next_of g ≡ texts (take n rest.now))
         × StepsFollow ps before (give (switches_of (cluster name.now)) g)
-        × Stands ps (before ++ give (switches_of (cluster name.now)) g) progress.new)) }
+        × HasRead ps (before ++ give (switches_of (cluster name.now)) g) progress.new)) }
     ensures err { let ps = plan.now.parameters.now in IfErr result (λ e. IfSome (cause_of e) (λ cause. HoldsOpen ps progress.old (λ before.
         Refused ps before (switches_of (cluster name.now)) (value_text value.entry) (texts rest.now) cause))) }
 {
@@ -241,17 +241,17 @@ pub fn read_option<'src, 'words>(
     word: &'words str,
     rest: &[&'words str],
 ) -> Result<usize, TailError<'src>>
-    requires plan { IsPlan plan.now }
+    requires plan { IsTailPlan plan.now }
     requires count { vec_len progress.old.groups ≡ length plan.now.parameters.now }
     requires dashed { is_dashed word.now ≡ true }
     requires other { word.now ≢ 45 ∷ (45 ∷ []) }
     ensures count { OnOk result (vec_len progress.new.groups ≡ length plan.now.parameters.now) }
     ensures placed { OnOk result (progress.new.placed ≡ progress.old.placed) }
     ensures within { IfOk result (λ n. n ≤ length rest.now) }
-    ensures ok { let ps = plan.now.parameters.now in IfOk result (λ n. HoldsOpen ps progress.old (λ before. (name : OptionName) × (g : Given)
+    ensures ok { let ps = plan.now.parameters.now in IfOk result (λ n. HoldsOpen ps progress.old (λ before. (name : OptionName) × (g : Supplied)
         × IsOptionName name × (word.now ≡ option_word name (value_of g)) × (next_of g ≡ texts (take n rest.now))
         × StepsFollow ps before (give (switches_of name) g)
-        × Stands ps (before ++ give (switches_of name) g) progress.new)) }
+        × HasRead ps (before ++ give (switches_of name) g) progress.new)) }
     ensures err { let ps = plan.now.parameters.now in IfErr result (λ e. IfSome (cause_of e) (λ cause. HoldsOpen ps progress.old (λ before.
         BadOption ps before (word.now ∷ texts rest.now) cause))) }
 {

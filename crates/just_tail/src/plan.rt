@@ -5,7 +5,7 @@ ghost use Rattle.std.specs.HashMap.{get};
 ghost use Rattle.just_names.specs.Texts.{Text as Name};
 ghost use Rattle.just_errors.specs.declared.switch.Switch.TheVariants as named;
 ghost use Rattle.just_tail.specs.Options.{option_of, place_from, has_options, positions_from, first_variadic, place};
-ghost use Rattle.just_tail.specs.Reader.{switch_of, IsPlan};
+ghost use Rattle.just_tail.specs.Reader.{switch_of, IsTailPlan};
 
 use crate::switch::BorrowedSwitch;
 use just_ast_definitions::Parameter;
@@ -99,7 +99,7 @@ impl<'run, 'src> Plan<'run, 'src> {
         alloc: Global,
         parameters: &'run [Parameter<'src>],
     ) -> Result<Plan<'run, 'src>, AllocError>
-        ensures plan { IfOk result IsPlan }
+        ensures plan { IfOk result IsTailPlan }
         ensures same { IfOk result (λ plan. plan.parameters.now ≡ parameters.now) }
     {
         let long = long_places(alloc, parameters)?;
@@ -117,7 +117,7 @@ impl<'run, 'src> Plan<'run, 'src> {
 
     // The place of the parameter that a switch names.
     fn option_place(&self, switch: BorrowedSwitch) -> Option<usize>
-        requires { IsPlan self.now }
+        requires { IsTailPlan self.now }
         ensures { result ≡ place_from 0 self.now.parameters.now (switch_of switch.entry) }
     {
         match switch {
@@ -128,7 +128,7 @@ impl<'run, 'src> Plan<'run, 'src> {
 
     /// The parameter that a switch names, with its place.
     pub fn option(&self, switch: BorrowedSwitch) -> Option<(usize, &'run Parameter<'src>)>
-        requires { IsPlan self.now }
+        requires { IsTailPlan self.now }
         ensures within { IfSome result (λ found. found.0 < length self.now.parameters.now) }
         ensures found { option_map (λ found. (found.0, found.1.now)) result ≡ option_of self.now.parameters.now (switch_of switch.entry) }
     {
@@ -141,7 +141,7 @@ impl<'run, 'src> Plan<'run, 'src> {
 
     /// The place of the parameter to which a positional word belongs, by how many stand before it.
     pub fn place(&self, placed: usize) -> Option<usize>
-        requires { IsPlan self.now }
+        requires { IsTailPlan self.now }
         ensures { result ≡ place self.now.parameters.now placed }
     {
         self.positions.get(placed.min(self.variadic)).copied()

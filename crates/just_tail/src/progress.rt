@@ -1,6 +1,6 @@
 //! How far the reader of a tail has come.
 ghost use Rattle.std.specs.Prelude.{◌≡◌, [], IfOk, length, vec_len};
-ghost use Rattle.just_tail.specs.Reader.{Stands};
+ghost use Rattle.just_tail.specs.Reader.{HasRead};
 
 use crate::groups::empty_groups;
 use crate::plan::has_options;
@@ -21,7 +21,7 @@ pub struct Progress<'words> {
 impl<'words> Progress<'words> {
     /// Before any word.
     pub fn new(alloc: Global, parameters: &[Parameter]) -> Result<Progress<'words>, AllocError>
-        ensures stands { IfOk result (Stands parameters.now []) }
+        ensures stands { IfOk result (HasRead parameters.now []) }
         ensures count { IfOk result (λ progress. vec_len progress.groups ≡ length parameters.now) }
         ensures placed { IfOk result (λ progress. progress.placed ≡ 0) }
     {

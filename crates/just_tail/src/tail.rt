@@ -2,11 +2,11 @@
 ghost use Rattle.std.specs.Prelude.{◌≡◌, ◌<◌, ◌≤◌, ◌+◌, ◌^◌, IfOk, IfErr, IfSome, ◌++◌, length, take, drop, vec_len};
 ghost use Rattle.just_names.specs.Texts.{texts};
 ghost use Rattle.just_tail.specs.Words.{shown};
-ghost use Rattle.just_tail.specs.Pieces.{Piece, words_of, IsNamed};
+ghost use Rattle.just_tail.specs.Pieces.{Piece, words_of, HasOptionName};
 ghost use Rattle.just_tail.specs.Steps.{steps_of, StepsFollow, Ends};
 ghost use Rattle.just_tail.specs.Cause.{cause_of};
 ghost use Rattle.just_tail.specs.Tail.{IsTail, NoTail, BadOption};
-ghost use Rattle.just_tail.specs.Reader.{IsPlan, Stands, HoldsAfter};
+ghost use Rattle.just_tail.specs.Reader.{IsTailPlan, HasRead, HoldsAfter};
 
 use crate::error::TailError;
 use crate::groups::push_at;
@@ -42,7 +42,7 @@ fn read_piece<'src, 'words>(
     progress: &mut Progress<'words>,
     words: &[&'words str],
 ) -> Result<usize, TailError<'src>>
-    requires plan { IsPlan plan.now }
+    requires plan { IsTailPlan plan.now }
     requires count { vec_len progress.old.groups ≡ length plan.now.parameters.now }
     requires room { progress.old.placed + length words.now < 2 ^ 64 }
     ensures count { IfOk result (λ n. vec_len progress.new.groups ≡ length plan.now.parameters.now) }
@@ -51,8 +51,8 @@ fn read_piece<'src, 'words>(
     ensures ended { let ps = plan.now.parameters.now in IfOk result (λ n. n ≡ 0 → HoldsAfter ps progress.old (λ before.
         Ends ps before (texts words.now) × (progress.new ≡ progress.old))) }
     ensures piece { let ps = plan.now.parameters.now in IfOk result (λ n. 0 < n → HoldsAfter ps progress.old (λ before. (x : Piece)
-        × IsNamed x × StepsFollow ps before (steps_of x) × (texts (take n words.now) ≡ words_of x)
-        × Stands ps (before ++ steps_of x) progress.new)) }
+        × HasOptionName x × StepsFollow ps before (steps_of x) × (texts (take n words.now) ≡ words_of x)
+        × HasRead ps (before ++ steps_of x) progress.new)) }
     ensures err { let ps = plan.now.parameters.now in IfErr result (λ e. IfSome (cause_of e) (λ cause. HoldsAfter ps progress.old (λ before.
         BadOption ps before (texts words.now) cause))) }
 {

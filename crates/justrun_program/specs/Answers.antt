@@ -45,17 +45,17 @@ pub data IsFaultOver (files : Files) (root : Text) (words : List Text) : Program
   refused : IsFaultOver files root words program.Memory
 
 -- the text is a bundle of files, and the words ran over these
-pub record IsDone (text root : Text) (words : List Text) (old new : Option (List ℕ)) : Type 0 where
+pub record IsRunDone (text root : Text) (words : List Text) (old new : Option (List ℕ)) : Type 0 where
   pub files : Files
   pub bundle : HoldsBundle text files
   pub done : IsDoneOver files root words old new
 
 -- why not: the text is no bundle, or they fail over its files
-pub data IsFault (text root : Text) (words : List Text) : ProgramError → Type 0 where
-  unbundled : (e : _) → IsNoBundle text e → IsFault text root words (program.Bundle e)
-  over : (files : Files) (e : ProgramError) → HoldsBundle text files → IsFaultOver files root words e → IsFault text root words e
+pub data IsProgramFault (text root : Text) (words : List Text) : ProgramError → Type 0 where
+  unbundled : (e : _) → IsNoBundle text e → IsProgramFault text root words (program.Bundle e)
+  over : (files : Files) (e : ProgramError) → HoldsBundle text files → IsFaultOver files root words e → IsProgramFault text root words e
 
 -- What success means: the first argument is a clean path, and the others were run over the bundle that was left to read, where that is known.
 abbrev pub HasRun : List Text → Option (List ℕ) → Option (List ℕ) → Option (List ℕ) → Type 0
 HasRun [] left old new = ⊥
-HasRun (root ∷ words) left old new = IsClean root × IfSome left (λ text. IsDone text root words old new)
+HasRun (root ∷ words) left old new = IsClean root × IfSome left (λ text. IsRunDone text root words old new)

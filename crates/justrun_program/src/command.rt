@@ -7,7 +7,7 @@ ghost use Rattle.just_loader.specs.Sources.{text_at};
 ghost use Rattle.just_bench_syntax.specs.Answers.{answers};
 ghost use Rattle.just_bench.specs.Entries.{entry_lines};
 ghost use Rattle.just_bench.specs.Ran.{IsRunFault, Ran, plain_front};
-ghost use Rattle.justrun_program.specs.Answers.{Comes, HasRun, IsDone, IsDoneOver, IsFault, IsFaultOver};
+ghost use Rattle.justrun_program.specs.Answers.{Comes, HasRun, IsRunDone, IsDoneOver, IsProgramFault, IsFaultOver};
 
 use just_analyzer::layers::{Config, Error};
 use just_analyzer::{Compilation, Compiler, Sources, is_clean};
@@ -101,8 +101,8 @@ fn run_bundle<'src, W: Write>(
     output: &mut W,
 ) -> Result<(), ProgramError<'src>>
     requires { IsClean root.now }
-    ensures done { OnOk result (IsDone text.now root.now (texts words.now) (W.contents output.old) (W.contents output.new)) }
-    ensures fault { IfErr result (IsFault text.now root.now (texts words.now)) }
+    ensures done { OnOk result (IsRunDone text.now root.now (texts words.now) (W.contents output.old) (W.contents output.new)) }
+    ensures fault { IfErr result (IsProgramFault text.now root.now (texts words.now)) }
 {
     match read_sources(alloc, text) {
         Ok(sources) => run_sources(alloc, &sources, root, words, output),
@@ -121,7 +121,7 @@ fn run_text<W: Write, E: Write>(
 ) -> u8
     requires { IsClean root.now }
     ensures status { result < 2 }
-    ensures done { result ≡ 0 → IsDone text.now root.now (texts words.now) (W.contents output.old) (W.contents output.new) }
+    ensures done { result ≡ 0 → IsRunDone text.now root.now (texts words.now) (W.contents output.old) (W.contents output.new) }
     ensures quiet { result ≡ 0 → errors.new ≡ errors.old }
 {
     match run_bundle(alloc, text, root, words, output) {

@@ -1,6 +1,6 @@
 use Rattle.std.proofs.Common.{arith, ◌≡◌, ◌<◌, ◌≤◌, get_or, take, drop, length, Some, false}
 use Rattle.std.proofs.lemmas.Grind.{common_steps}
-use Rattle.just_bench_expressions.specs.Lexemes.{first, is_blank, Takes}
+use Rattle.just_bench_expressions.specs.Lexemes.{first, is_blank, TakesLexeme}
 use Rattle.just_bench_expressions.proofs.Lexing.{Lexed-start, Lexed-push, last_of_cut}
 use Rattle.just_bench_expressions.proofs.Quoting.{read_quoted}
 use Rattle.just_bench_expressions.proofs.lexer.lex.Goals as goal
@@ -16,7 +16,7 @@ loop-at-preserved c =
     let left : c.loop-at.at < length bytes = grind (arith, common_steps) in
     let sharp : is_blank (get_or bytes c.loop-at.at 0) ≡ false = grind (arith, common_steps) in
     let is : first (drop c.loop-at.at bytes) ≡ Some (c.in-Some.kind, c.in-Some.size) = grind (arith, common_steps) in
-    let takes : Takes (drop c.loop-at.at bytes) c.in-Some.size = grind (arith, common_steps) in
+    let takes : TakesLexeme (drop c.loop-at.at bytes) c.in-Some.size = grind (arith, common_steps) in
     Lexed-push c.args.path.now c.args.text.now line c.args.start c.args.end c.loop-at.found c.loop-at.at c.in-Some.kind c.in-Some.size c.push.new.self bytes cut c.loop-at.invariant left sharp is takes
     (grind (arith, common_steps))
 
@@ -26,7 +26,7 @@ token-requires-clause-last c =
     let bytes = c.split_at.result.0.now in
     let cut : bytes ≡ take c.args.end line.text = grind (arith, common_steps) in
     let left : c.loop-at.at < length bytes = grind (arith, common_steps) in
-    let takes : Takes (drop c.loop-at.at bytes) c.in-Some.size = grind (arith, common_steps) in
+    let takes : TakesLexeme (drop c.loop-at.at bytes) c.in-Some.size = grind (arith, common_steps) in
     last_of_cut line.text c.args.end bytes c.loop-at.at c.in-Some.size cut left takes
 
 pub returns-clause-quoted : goal.returns-clause-quoted

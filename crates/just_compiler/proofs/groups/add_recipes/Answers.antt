@@ -6,7 +6,7 @@ use Rattle.just_compiler.specs.Parts.{around_by, completion_here}
 use Rattle.just_compiler.proofs.OwnNumbers.{all_recipes_kept, default_standing}
 use Rattle.just_compiled.proofs.AliasTargets.{targets_known, unknown_on}
 use Rattle.just_compiled.specs.Analysis.{recipe_table}
-use Rattle.just_module_contents.specs.Defaults.{Defaults}
+use Rattle.just_module_contents.specs.Defaults.{BreaksDefaults}
 use Rattle.just_module_contents.specs.Definitions.{aliases_in, contents_in, recipes_in}
 use Rattle.just_module_contents.specs.Kept.{kept_recipes}
 use Rattle.just_module_contents.specs.Named.{recipes_by}
@@ -24,9 +24,9 @@ pub returns-in_err-default-clause-named : goal.returns-in_err-default-clause-nam
 returns-in_err-default-clause-named g c =
     let own = c.in_ok-linked.ensures.own in
     let standing = recipes_in c.in_ok-linked.linked.standing in
-    let named : Reports (Defaults standing) c.in_err-default.field-0.0 = c.in_err-default.ensures.named in
-    IfErr-weaker c.from_residual-in_err-default.result (Reports (Defaults standing)) _
-    (λ e h. reports_by (Defaults standing) (BreaksRecipes _ _ _ _ _)
+    let named : Reports (BreaksDefaults standing) c.in_err-default.field-0.0 = c.in_err-default.ensures.named in
+    IfErr-weaker c.from_residual-in_err-default.result (Reports (BreaksDefaults standing)) _
+    (λ e h. reports_by (BreaksDefaults standing) (BreaksRecipes _ _ _ _ _)
     (λ x k. in_aliases c.in_ok-linked.ensures.bodies c.in_ok-linked.ensures.kept own (of_defaults standing c.in_ok-linked.ensures.linked.stand k)) e h)
     (search (rules, named, c.from_residual-in_err-default.ensures.1, c.from_residual-in_err-default.ensures.0))
 

@@ -3,11 +3,11 @@ use Rattle.std.proofs.lemmas.Result.{IfErr-weaker}
 use Rattle.just_errors.specs.Causes.{Reports}
 use Rattle.just_errors.proofs.Lifts.{reports_by}
 use Rattle.just_parts.specs.Layers.{given_by, layers_at}
-use Rattle.just_module_contents.specs.Constants.{Constants}
+use Rattle.just_module_contents.specs.Constants.{BreaksConstants}
 use Rattle.just_module_contents.specs.Definitions.{contents_in}
 use Rattle.just_module_contents.specs.Groups.{BreaksContents, OfConstants, OfExpressions, OfHeaders, OfNames}
 use Rattle.just_module_contents.specs.Known.{known_of}
-use Rattle.just_module_contents.specs.Rules.{Headers, Names}
+use Rattle.just_module_contents.specs.Rules.{BreaksHeaders, BreaksDefinitions}
 use Rattle.just_parts.specs.Misnaming.{Expressions}
 use Rattle.just_compiler.specs.Checked.{no_links}
 use Rattle.just_compiler.proofs.GroupGrounds.{before_bodies, before_constants, before_expressions, before_names}
@@ -19,15 +19,15 @@ evaluate_constants-requires-clause-apart g c = numbers_apart (g.S.Syntax.answers
 
 pub returns-in_err-check_headers-clause-named : goal.returns-in_err-check_headers-clause-named
 returns-in_err-check_headers-clause-named g c =
-    IfErr-weaker c.from_residual.result (Reports (Headers (g.S.Syntax.answers c.args.given.now.syntax.now).conflicts (contents_in c.args.definitions.now))) _
-    (λ e h. reports_by (Headers _ _) (BreaksContents _ no_links no_links _) (λ x k. record { group = OfHeaders; earlier = λ f lt. absurd (omega (arith, lt)); broken = k }) e h) (search rules)
+    IfErr-weaker c.from_residual.result (Reports (BreaksHeaders (g.S.Syntax.answers c.args.given.now.syntax.now).conflicts (contents_in c.args.definitions.now))) _
+    (λ e h. reports_by (BreaksHeaders _ _) (BreaksContents _ no_links no_links _) (λ x k. record { group = OfHeaders; earlier = λ f lt. absurd (omega (arith, lt)); broken = k }) e h) (search rules)
 
 pub returns-in_err-check_names-clause-named : goal.returns-in_err-check_names-clause-named
 returns-in_err-check_names-clause-named g c =
     let layers = layers_at (given_by g.S.Syntax.answers g.E.ConstantEvaluation.answers c.args.given.now) c.args.path.now in
     let m = contents_in c.args.definitions.now in
-    IfErr-weaker c.from_residual-in_err-check_names.result (Reports (Names m)) _
-    (λ e h. reports_by (Names m) (BreaksContents layers no_links no_links m) (λ x k. record { group = OfNames; earlier = before_names layers no_links m c.in_ok-check_headers.ensures.kept; broken = k }) e h) (search rules)
+    IfErr-weaker c.from_residual-in_err-check_names.result (Reports (BreaksDefinitions m)) _
+    (λ e h. reports_by (BreaksDefinitions m) (BreaksContents layers no_links no_links m) (λ x k. record { group = OfNames; earlier = before_names layers no_links m c.in_ok-check_headers.ensures.kept; broken = k }) e h) (search rules)
 
 pub returns-in_err-variables-clause-named : goal.returns-in_err-variables-clause-named
 returns-in_err-variables-clause-named g c =
@@ -41,8 +41,8 @@ pub returns-in_err-constants-clause-named : goal.returns-in_err-constants-clause
 returns-in_err-constants-clause-named g c =
     let layers = layers_at (given_by g.S.Syntax.answers g.E.ConstantEvaluation.answers c.args.given.now) c.args.path.now in
     let m = contents_in c.args.definitions.now in
-    IfErr-weaker c.from_residual-in_err-constants.result (Reports (Constants layers m)) _
-    (λ e h. reports_by (Constants layers m) (BreaksContents layers no_links no_links m)
+    IfErr-weaker c.from_residual-in_err-constants.result (Reports (BreaksConstants layers m)) _
+    (λ e h. reports_by (BreaksConstants layers m) (BreaksContents layers no_links no_links m)
     (λ x k. record { group = OfConstants; earlier = before_constants layers no_links m c.in_ok-check_headers.ensures.kept c.in_ok-check_names.ensures.kept c.in_ok-variables.ensures.kept; broken = k }) e h) (search rules)
 
 pub returns-clause-kept : goal.returns-clause-kept

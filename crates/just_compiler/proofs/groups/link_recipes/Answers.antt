@@ -14,7 +14,7 @@ use Rattle.just_module_contents.specs.Kept.{kept_recipes}
 use Rattle.just_module_contents.specs.RecipeValues.{IsPastLimits}
 use Rattle.just_module_contents.specs.Recipes.{names_of}
 use Rattle.just_module_contents.specs.Resolved.{AreNew, HasPriors, unresolved_numbers}
-use Rattle.just_module_contents.specs.Rules.{Bodies}
+use Rattle.just_module_contents.specs.Rules.{BreaksBodies}
 use Rattle.just_module_contents.specs.Standing.{InStanding}
 use Rattle.just_module_contents.proofs.Keeping.{kept_all, kept_different, kept_number, kept_once}
 use Rattle.just_module_recipes.specs.Broken.{BreaksRecipes, in_bodies}
@@ -53,8 +53,8 @@ resolve_kept-requires-clause-covered g c = λ i h.
 
 pub returns-in_err-check_bodies-clause-named : goal.returns-in_err-check_bodies-clause-named
 returns-in_err-check_bodies-clause-named g c =
-    IfErr-weaker c.from_residual.result (Reports (Bodies (g.S.Syntax.answers c.args.given.now.syntax.now) c.args.checked.now.constants.settings (contents_in c.args.checked.now.definitions))) _
-    (λ e h. reports_by (Bodies _ _ _) (BreaksRecipes _ _ _ _ _) (λ x k. in_bodies k) e h) (search rules)
+    IfErr-weaker c.from_residual.result (Reports (BreaksBodies (g.S.Syntax.answers c.args.given.now.syntax.now) c.args.checked.now.constants.settings (contents_in c.args.checked.now.definitions))) _
+    (λ e h. reports_by (BreaksBodies _ _ _) (BreaksRecipes _ _ _ _ _) (λ x k. in_bodies k) e h) (search rules)
 
 pub returns-clause-kept : goal.returns-clause-kept
 returns-clause-kept g c =

@@ -4,10 +4,10 @@ use Rattle.just_errors.specs.declared.halt.Halt.TheVariants.{Memory}
 use Rattle.just_recipe.specs.Recipes.{numbers}
 use Rattle.just_recipe.specs.declared.dependency.Dependency.{Dependency}
 use Rattle.just_run_layers.specs.Covering.{module_of}
-use Rattle.just_run_layers.proofs.StepLemmas.{exited, keeps-self, keeps-then}
-use Rattle.just_execution.specs.Arguments.{AreGiven, IsGivenIn, dependencies_steps, dependency_steps, tasks_with}
+use Rattle.just_run_layers.proofs.InteractionLemmas.{exited, keeps-self, keeps-then}
+use Rattle.just_execution.specs.Arguments.{AreReadableGroups, IsGivenIn, dependencies_steps, dependency_steps, tasks_with}
 use Rattle.just_execution.specs.Frames.{items_of}
-use Rattle.just_execution.specs.Leaves.{AsksAlone, surrounded}
+use Rattle.just_execution.specs.TaskInteractions.{AsksAlone, surrounded}
 use Rattle.just_execution.specs.Scene.{contents_of}
 use Rattle.just_execution.specs.declared.task.Task.{Task}
 use Rattle.just_execution.proofs.Gathered.{Continues, gathered-all, gathered-next, gathered-out, gathered-start, gathered-stop}
@@ -24,7 +24,7 @@ loop-dependency-init g c =
     }
 
 pub ask_groups-requires : goal.ask_groups-requires
-ask_groups-requires g c = subst (AreGiven (module_of c.args.home.now.context) c.args.held.now.scope) (sym (c.as_slice-given.ensures))
+ask_groups-requires g c = subst (AreReadableGroups (module_of c.args.home.now.context) c.args.held.now.scope) (sym (c.as_slice-given.ensures))
     (subst (IsGivenIn (module_of c.args.home.now.context) c.args.held.now.scope) (sym c.dependency-item.is) (c.requires.given c.loop-dependency.dependency-index c.dependency-item.result c.loop-dependency-test.true))
 
 pub push_tasks-requires : goal.push_tasks-requires

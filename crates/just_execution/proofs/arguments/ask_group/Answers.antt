@@ -3,9 +3,9 @@ use Rattle.just_errors.specs.declared.halt.Halt.TheVariants.{Memory}
 use Rattle.just_names.specs.Texts.{Text}
 use Rattle.just_run_layers.specs.Covering.{module_of}
 use Rattle.just_run_layers.specs.Evaluation.{surroundings}
-use Rattle.just_run_layers.proofs.StepLemmas.{exited, keeps-self, keeps-then}
-use Rattle.just_execution.specs.Arguments.{IsReadable, argument_steps, texts_steps}
-use Rattle.just_execution.specs.Leaves.{AsksAlone}
+use Rattle.just_run_layers.proofs.InteractionLemmas.{exited, keeps-self, keeps-then}
+use Rattle.just_execution.specs.Arguments.{IsReadableArgument, argument_steps, texts_steps}
+use Rattle.just_execution.specs.TaskInteractions.{AsksAlone}
 use Rattle.just_execution.proofs.Gathered.{Continues, gathered-all, gathered-next, gathered-out, gathered-start, gathered-stop}
 use Rattle.just_execution.proofs.arguments.ask_group.Goals as goal
 
@@ -19,7 +19,7 @@ loop-argument-init g c =
     }
 
 pub ask_argument-requires : goal.ask_argument-requires
-ask_argument-requires g c = subst (IsReadable (module_of c.args.context.now) c.args.scope.now) (sym c.argument-item.is) (c.requires c.loop-argument.argument-index c.argument-item.result c.loop-argument-test.true)
+ask_argument-requires g c = subst (IsReadableArgument (module_of c.args.context.now) c.args.scope.now) (sym c.argument-item.is) (c.requires c.loop-argument.argument-index c.argument-item.result c.loop-argument-test.true)
 
 pub loop-argument-preserved : goal.loop-argument-preserved
 loop-argument-preserved g c =

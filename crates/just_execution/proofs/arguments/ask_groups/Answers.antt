@@ -3,9 +3,9 @@ use Rattle.just_errors.specs.declared.halt.Halt.TheVariants.{Memory}
 use Rattle.just_names.specs.Texts.{Text}
 use Rattle.just_run_layers.specs.Covering.{module_of}
 use Rattle.just_run_layers.specs.Evaluation.{surroundings}
-use Rattle.just_run_layers.proofs.StepLemmas.{exited, keeps-self, keeps-then}
-use Rattle.just_execution.specs.Arguments.{AreReadable, group_steps, groups_steps}
-use Rattle.just_execution.specs.Leaves.{AsksAlone}
+use Rattle.just_run_layers.proofs.InteractionLemmas.{exited, keeps-self, keeps-then}
+use Rattle.just_execution.specs.Arguments.{AreReadableArguments, group_steps, groups_steps}
+use Rattle.just_execution.specs.TaskInteractions.{AsksAlone}
 use Rattle.just_execution.proofs.Gathered.{Continues, gathered-all, gathered-next, gathered-out, gathered-start, gathered-stop}
 use Rattle.just_execution.proofs.Asked.{group-failed, group-given}
 use Rattle.just_execution.proofs.arguments.ask_groups.Goals as goal
@@ -20,7 +20,7 @@ loop-group-init g c =
     }
 
 pub ask_group-requires : goal.ask_group-requires
-ask_group-requires g c = subst (AreReadable (module_of c.args.context.now) c.args.scope.now) (sym (c.as_slice-arguments.ensures ∙ c.group-item.is)) (c.requires c.loop-group.group-index c.group-item.result c.loop-group-test.true)
+ask_group-requires g c = subst (AreReadableArguments (module_of c.args.context.now) c.args.scope.now) (sym (c.as_slice-arguments.ensures ∙ c.group-item.is)) (c.requires c.loop-group.group-index c.group-item.result c.loop-group-test.true)
 
 pub loop-group-preserved : goal.loop-group-preserved
 loop-group-preserved g c =

@@ -6,7 +6,7 @@ use Rattle.just_paths.specs.Clean.{folder_of}
 use Rattle.just_loader.specs.Links.{To, Fault, link_in}
 use Rattle.just_loader.specs.ModuleFile.{relative}
 use Rattle.just_loader.specs.Numbering.{paths_of}
-use Rattle.just_loader.specs.Reached.{World, world_of, LeadsTo, NamesAt, items_said, relative_to_root}
+use Rattle.just_loader.specs.Reached.{World, world_of, FileLeadsTo, BreaksAt, items_said, relative_to_root}
 use Rattle.just_loader.specs.Scanned.{ArePlacesOf, AreSteps}
 use Rattle.just_errors.proofs.Lifts.{lifted}
 use Rattle.just_loader.proofs.Scanning.{places_count, grows_by}
@@ -27,7 +27,7 @@ returns-in_err-targets-clause-named g c =
     let folder : c.folder_of-folder.result.now ≡ folder_of c.args.file.now.path = c.folder_of-folder.ensures ∙ ap folder_of c.as_str-path.ensures in
     let links : map (link_in w.files w.home w.answers.enabled c.folder_of-folder.result.now) c.in_ok-ast.ast.items ≡ map (link_in w.files w.home w.answers.enabled (folder_of c.args.file.now.path)) c.in_ok-ast.ast.items =
     ap (λ x. map (link_in w.files w.home w.answers.enabled x) c.in_ok-ast.ast.items) folder in
-    lifted (λ k. Contains (map (link_in w.files w.home w.answers.enabled c.folder_of-folder.result.now) c.in_ok-ast.ast.items) (Fault k)) (NamesAt w c.args.file.now.path)
+    lifted (λ k. Contains (map (link_in w.files w.home w.answers.enabled c.folder_of-folder.result.now) c.in_ok-ast.ast.items) (Fault k)) (BreaksAt w c.args.file.now.path)
     (λ k h. fault_at w c.args.file.now c.requires.file.0 c.in_ok-ast.ast.items parsed k (subst (λ ls. Contains ls (Fault k)) links h))
     c.from_residual-in_err-targets.result (search rules)
 
@@ -62,7 +62,7 @@ returns-clause-kept g c =
     let places : ArePlacesOf (paths_of c.targets.new.found.files.items) (map (link_in w.files w.home w.answers.enabled (folder_of c.args.file.now.path)) c.in_ok-ast.ast.items) c.in_ok-targets.targets.items =
     subst (λ ls. ArePlacesOf (paths_of c.targets.new.found.files.items) ls c.in_ok-targets.targets.items) links c.in_ok-targets.ensures.places in
     let fits : w.answers.spends (relative_to_root w c.args.file.now.path) c.args.file.now.text ≤ 2 ^ 64 =
-    subst (λ n. n ≤ 2 ^ 64) (ap (λ x. w.answers.spends x c.as_str-text.result.now) shown ∙ ap (w.answers.spends (relative_to_root w c.args.file.now.path)) c.as_str-text.ensures) c.in_ok-ast.ensures.fits in
+    subst (λ n. n ≤ 2 ^ 64) (ap (λ x. w.answers.spends x c.as_str-text.result.now) shown ∙ ap (w.answers.spends (relative_to_root w c.args.file.now.path)) c.as_str-text.ensures) c.in_ok-ast.ensures.takes in
     none_at w c.args.file.now c.requires.file.0 c.in_ok-ast.ast.items parsed (paths_of c.targets.new.found.files.items) c.in_ok-targets.targets.items places fits
 
 pub returns-clause-grows : goal.returns-clause-grows
@@ -73,5 +73,5 @@ returns-clause-grows g c =
     let folder : c.folder_of-folder.result.now ≡ folder_of c.args.file.now.path = c.folder_of-folder.ensures ∙ ap folder_of c.as_str-path.ensures in
     let links : map (link_in w.files w.home w.answers.enabled c.folder_of-folder.result.now) c.in_ok-ast.ast.items ≡ map (link_in w.files w.home w.answers.enabled (folder_of c.args.file.now.path)) c.in_ok-ast.ast.items =
     ap (λ x. map (link_in w.files w.home w.answers.enabled x) c.in_ok-ast.ast.items) folder in
-    grows_by (λ p. Contains (map (link_in w.files w.home w.answers.enabled c.folder_of-folder.result.now) c.in_ok-ast.ast.items) (To p)) (LeadsTo w c.args.file.now.path) (paths_of c.args.found.now.files.items) (paths_of c.targets.new.found.files.items) c.in_ok-targets.ensures.grows
+    grows_by (λ p. Contains (map (link_in w.files w.home w.answers.enabled c.folder_of-folder.result.now) c.in_ok-ast.ast.items) (To p)) (FileLeadsTo w c.args.file.now.path) (paths_of c.args.found.now.files.items) (paths_of c.targets.new.found.files.items) c.in_ok-targets.ensures.grows
     (λ p h. leads_to w c.args.file.now c.requires.file.0 c.in_ok-ast.ast.items parsed p (subst (λ ls. Contains ls (To p)) links h))

@@ -5,7 +5,7 @@ use Rattle.std.proofs.lemmas.Result.{IfErr-weaker}
 use Rattle.just_errors.specs.Causes.{Reports}
 use Rattle.just_errors.proofs.Lifts.{reports_by}
 use Rattle.just_parts.specs.Groups.{first}
-use Rattle.just_module_contents.specs.Shells.{FirstLine, Lines, of_line}
+use Rattle.just_module_contents.specs.Shells.{BreaksFirstLine, BreaksLines, of_line}
 use Rattle.just_module_bodies.proofs.Grouping.{begins_next, firsts_more, goes_on, lines_kept}
 use Rattle.just_module_bodies.proofs.shells.check_lines.Goals.{then-begins+in_ok-check_first_line, else-begins}
 use Rattle.just_module_bodies.proofs.shells.check_lines.Goals as goal
@@ -41,8 +41,8 @@ returns-in_err-check_first_line-clause-named g c =
     let place = c.loop-place.place in
     let inside : place < length lines = omega arith in
     let at : slice_get lines place ≡ Some line = slice_get_read lines (length lines) place line refl inside c.index-lines-place.is in
-    IfErr-weaker c.from_residual.result (Reports (FirstLine answers settings line)) _
-    (λ e h. reports_by (FirstLine answers settings line) (Lines answers settings lines) (λ x k. of_line place (c.loop-place.invariant.0 c.if-begins.true) at k) e h) (search rules)
+    IfErr-weaker c.from_residual.result (Reports (BreaksFirstLine answers settings line)) _
+    (λ e h. reports_by (BreaksFirstLine answers settings line) (BreaksLines answers settings lines) (λ x k. of_line place (c.loop-place.invariant.0 c.if-begins.true) at k) e h) (search rules)
 
 pub returns-clause-kept : goal.returns-clause-kept
 returns-clause-kept g c =

@@ -7,7 +7,7 @@ use Rattle.just_errors.specs.Causes.{Reports}
 use Rattle.just_errors.proofs.Lifts.{reports_by}
 use Rattle.just_module_contents.specs.Contents.{signature}
 use Rattle.just_module_contents.specs.Definitions.{functions_in}
-use Rattle.just_module_contents.specs.Rules.{Functions, RepeatsParameter, of_function}
+use Rattle.just_module_contents.specs.Rules.{BreaksFunctions, RepeatsParameter, of_function}
 use Rattle.just_module_contents.proofs.Signatures.{functions_kept}
 use Rattle.just_module_contents.proofs.RecipePlaces.{length-lent}
 use Rattle.just_module_headers.proofs.functions.check_functions.Goals as goal
@@ -16,7 +16,7 @@ pub returns-in_err-check_function-clause-named : goal.returns-in_err-check_funct
 returns-in_err-check_function-clause-named c =
     let at = map_get signature (functions_in c.args.definitions.now) c.loop-place.place c.function_at.result.now c.function_at.ensures in
     IfErr-weaker c.from_residual-in_err-check_function.result (Reports (RepeatsParameter (signature c.function_at.result.now))) _
-    (λ e h. reports_by (RepeatsParameter _) (Functions _) (λ x k. of_function c.loop-place.place at k) e h) (search rules)
+    (λ e h. reports_by (RepeatsParameter _) (BreaksFunctions _) (λ x k. of_function c.loop-place.place at k) e h) (search rules)
 
 pub returns-clause-kept : goal.returns-clause-kept
 returns-clause-kept c =

@@ -9,7 +9,7 @@ use Rattle.just_errors.proofs.Lifts.{reports_by}
 use Rattle.just_names.specs.Index.{AreDifferent}
 use Rattle.just_module_headers.specs.Files.{asts_in}
 use Rattle.just_module_contents.specs.Named.{naming_by, said_from}
-use Rattle.just_module_contents.specs.Rules.{Named}
+use Rattle.just_module_contents.specs.Rules.{BreaksNamings}
 use Rattle.just_module_headers.specs.OfPlaces.{RepeatsNames, namings_of_place}
 use Rattle.just_module_headers.proofs.Joining.{row_lent}
 use Rattle.just_module_headers.proofs.module_names.check_module_names.Goals as goal
@@ -26,9 +26,9 @@ returns-in_err-check_named-clause-named g c =
     let inside : slice_index c.args.order.now c.loop-place.place-index < length c.args.joined.now.files.items = c.requires.places c.loop-place.place-index 0 (omega arith) in
     let row = row_lent c.args.joined.now.files.items (slice_index c.args.order.now c.loop-place.place-index) c.index.result.now c.as_slice-row.result.now inside c.index.ensures c.as_slice-row.ensures.value in
     let names = c.as_slice.ensures.value ∙ c.in_ok-namings.ensures ∙ ap (said_from naming_by enabled (asts_in c.args.files.now)) row in
-    IfErr-weaker c.from_residual-in_err-check_named.result (Reports (Named c.as_slice.result.now)) _
-    (λ e h. reports_by (Named (namings_of_place enabled c.args.files.now c.args.joined.now (slice_index c.args.order.now c.loop-place.place-index))) (RepeatsNames enabled c.args.files.now c.args.joined.now c.args.order.now)
-    (λ x b. record { at = c.loop-place.place-index; there = omega arith; broken = b }) e (subst (λ (ns : List Naming). Reports (Named ns) e) names h))
+    IfErr-weaker c.from_residual-in_err-check_named.result (Reports (BreaksNamings c.as_slice.result.now)) _
+    (λ e h. reports_by (BreaksNamings (namings_of_place enabled c.args.files.now c.args.joined.now (slice_index c.args.order.now c.loop-place.place-index))) (RepeatsNames enabled c.args.files.now c.args.joined.now c.args.order.now)
+    (λ x b. record { at = c.loop-place.place-index; there = omega arith; broken = b }) e (subst (λ (ns : List Naming). Reports (BreaksNamings ns) e) names h))
     (search rules)
 
 pub loop-place-preserved : goal.loop-place-preserved

@@ -4,14 +4,14 @@ use Rattle.std.proofs.lemmas.Result.{IfErr-weaker}
 use Rattle.just_errors.specs.Causes.{Reports}
 use Rattle.just_errors.proofs.Lifts.{reports_by}
 use Rattle.just_module_contents.specs.Definitions.{sets_in}
-use Rattle.just_module_contents.specs.Rules.{SetTwice, Sets, set_twice}
+use Rattle.just_module_contents.specs.Rules.{SetTwice, BreaksSettings, set_twice}
 use Rattle.just_module_headers.proofs.Excluded.{sets_kept}
 use Rattle.just_module_contents.proofs.RecipePlaces.{length-lent}
 use Rattle.just_module_headers.proofs.settings.check_sets.Goals as goal
 
 pub returns-in_err-index-clause-named : goal.returns-in_err-index-clause-named
 returns-in_err-index-clause-named g c =
-    IfErr-weaker c.from_residual.result (Reports (SetTwice (sets_in c.args.definitions.now))) _ (λ e h. reports_by (SetTwice _) (Sets _ _) (λ x k. set_twice k) e h) (search rules)
+    IfErr-weaker c.from_residual.result (Reports (SetTwice (sets_in c.args.definitions.now))) _ (λ e h. reports_by (SetTwice _) (BreaksSettings _ _) (λ x k. set_twice k) e h) (search rules)
 
 pub returns-clause-kept : goal.returns-clause-kept
 returns-clause-kept g c =

@@ -6,7 +6,7 @@ use Rattle.just_names.specs.declared.name.Name.{Name}
 use Rattle.just_module_contents.specs.Contents.{variable_names}
 use Rattle.just_names.specs.Index.{texts_of_names, AreApart, AreDifferent}
 use Rattle.just_module_contents.specs.Definitions.{sets_in, variables_in}
-use Rattle.just_module_contents.specs.Rules.{AssignedTwice, Unexported, Variables, assigned_twice, unexported}
+use Rattle.just_module_contents.specs.Rules.{AssignedTwice, Unexported, BreaksVariables, assigned_twice, unexported}
 use Rattle.just_module_contents.specs.Settings.{allows_variables}
 use Rattle.just_module_contents.proofs.Defining.{variables_kept}
 use Rattle.just_module_headers.proofs.variables.check_variables.Goals.{then-not-allows_variables+in_ok-check_once, else-not-allows_variables}
@@ -15,7 +15,7 @@ use Rattle.just_module_headers.proofs.variables.check_variables.Goals as goal
 pub returns-in_err-check_once-clause-named : goal.returns-in_err-check_once-clause-named
 returns-in_err-check_once-clause-named c =
     IfErr-weaker c.from_residual-in_err-check_once.result (Reports (AssignedTwice c.as_slice.result.now)) _
-    (λ e h. reports_by (AssignedTwice c.as_slice.result.now) (Variables _ _ _)
+    (λ e h. reports_by (AssignedTwice c.as_slice.result.now) (BreaksVariables _ _ _)
     (λ x k. assigned_twice (sym c.allows_variables.ensures ∙ c.if-not-allows_variables.true) (subst (λ (ns : List Name). AssignedTwice ns x) (c.as_slice.ensures.value ∙ c.in_ok-names.ensures) k)) e h) (search rules)
 
 pub returns-clause-kept : goal.returns-clause-kept
@@ -35,6 +35,6 @@ returns-clause-named c =
     let names = c.as_slice-2.result.now in
     let unexports = c.as_slice-3.result.now in
     IfErr-weaker c.check_unexported.result (Reports (Unexported names unexports)) _
-    (λ e h. reports_by (Unexported names unexports) (Variables _ _ _)
+    (λ e h. reports_by (Unexported names unexports) (BreaksVariables _ _ _)
     (λ x k. unexported (subst (λ (ns : List Name). Unexported ns c.args.definitions.now.unexports.items x) (c.as_slice-2.ensures.value ∙ c.in_ok-names.ensures) (subst (λ (us : List Name). Unexported names us x) c.as_slice-3.ensures.value k))) e h)
     c.check_unexported.ensures.named

@@ -1,7 +1,7 @@
 use Rattle.just_module_contents.specs.Definitions.{recipes_in}
-use Rattle.just_module_recipes.specs.Making.{AreGiven}
+use Rattle.just_module_recipes.specs.Making.{AreGivenSets}
 use Rattle.just_module_recipes.specs.Rows.{around_by}
 use Rattle.just_module_recipes.proofs.counts.check_counts.Given as goal
 
 abbrev pub invariant-loop-place : goal.invariant-loop-place
-invariant-loop-place l = AreGiven l.settings.lists (recipes_in l.kept) (around_by l.it) l.sets l.place
+invariant-loop-place l = AreGivenSets l.settings.lists (recipes_in l.kept) (around_by l.it) l.sets l.place

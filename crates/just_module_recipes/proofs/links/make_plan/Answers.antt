@@ -6,7 +6,7 @@ use Rattle.just_errors.specs.Causes.{Reports}
 use Rattle.just_module_contents.proofs.RecipePlaces.{length-lent}
 use Rattle.just_module_contents.specs.Definitions.{recipes_in}
 use Rattle.just_module_recipes.specs.Links.{BreaksLinks}
-use Rattle.just_module_recipes.specs.Making.{AreAllThere, AreExact, AreGiven}
+use Rattle.just_module_recipes.specs.Making.{AreAllThere, AreExact, AreGivenSets}
 use Rattle.just_module_recipes.specs.Planned.{IsPlan}
 use Rattle.just_module_recipes.specs.Rows.{Circular, Lost, around_by}
 use Rattle.just_module_recipes.specs.declared.links.Plan.{Plan}
@@ -61,7 +61,7 @@ returns-clause-kept c =
     c.as_slice.ensures.value c.as_slice-2.ensures.value c.as_slice-3.ensures.value c.in_ok-order.ensures.ordered c.in_ok-sets.ensures.count c.in_ok-sets.ensures.told in
     let lists = c.args.settings.now.lists in
     links_kept lists rs it plan.rows.items is.rows c.in_ok-order.ensures.kept plan.sets.items is.exact
-    (subst (AreGiven lists rs it plan.sets.items) (sym long) (subst (λ (xs : List (BTreeSet Modulepath)). AreGiven lists rs it xs (length c.args.kept.now.recipes.items)) c.as_slice-5.ensures.value c.in_ok-check_counts.ensures.given))
+    (subst (AreGivenSets lists rs it plan.sets.items) (sym long) (subst (λ (xs : List (BTreeSet Modulepath)). AreGivenSets lists rs it xs (length c.args.kept.now.recipes.items)) c.as_slice-5.ensures.value c.in_ok-check_counts.ensures.given))
 
 pub returns-clause-plan : goal.returns-clause-plan
 returns-clause-plan c =

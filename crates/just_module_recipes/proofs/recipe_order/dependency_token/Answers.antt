@@ -2,7 +2,7 @@ use Rattle.std.proofs.Common.{◌≡◌, ◌<◌, ◌∙◌, List, ap, sym, subs
 use Rattle.std.proofs.lemmas.List.{get_or_default}
 use Rattle.just_module_contents.specs.Definitions.{recipes_in}
 use Rattle.just_module_contents.specs.Recipes.{recipe_at}
-use Rattle.just_module_recipes.specs.Links.{Names}
+use Rattle.just_module_recipes.specs.Links.{IsNameOf}
 use Rattle.just_module_recipes.specs.Rows.{IsTargetOf}
 use Rattle.just_module_recipes.specs.declared.targets.Target.TheVariants.{Near}
 use Rattle.just_module_recipes.proofs.Finding.{path_there, read_member}
@@ -41,7 +41,7 @@ returns-then-is_near c =
     let at = zip_at (IsTargetOf rs c.requires.row.0) (recipe_at rs c.args.dependent).dependencies c.args.row.now c.loop-at.at d (Near c.args.place) c.requires.row.1 (omega (arith, within, many)) in
     let read : d ≡ get_or (recipe_at rs c.args.dependent).dependencies c.loop-at.at d = c.index-dependencies-at.is ∙ ap (λ (xs : List UnresolvedDependency). get_or xs c.loop-at.at d) all in
     let target : get_or c.args.row.now c.loop-at.at (Near c.args.place) ≡ Near c.args.place = get_or_default c.args.row.now c.loop-at.at (Near c.args.place) c.index-row-at.result c.loop-at-test.true ∙ (sym c.index-row-at.is ∙ near) in
-    let names : Names rs d.recipe c.args.place = subst (λ (x : UnresolvedDependency). IsTargetOf rs c.requires.row.0 x (Near c.args.place)) (sym read) (subst (IsTargetOf rs c.requires.row.0 (get_or (recipe_at rs c.args.dependent).dependencies c.loop-at.at d)) target at) in
+    let names : IsNameOf rs d.recipe c.args.place = subst (λ (x : UnresolvedDependency). IsTargetOf rs c.requires.row.0 x (Near c.args.place)) (sym read) (subst (IsTargetOf rs c.requires.row.0 (get_or (recipe_at rs c.args.dependent).dependencies c.loop-at.at d)) target at) in
     record {
       path = d.recipe;
       depends = path_there rs c.requires.row.0 (recipe_at rs c.args.dependent) d (read_member c.as_slice-dependencies.result.now (recipe_at rs c.args.dependent).dependencies c.loop-at.at d all within c.index-dependencies-at.is);

@@ -11,7 +11,7 @@ use Rattle.just_parts.specs.Known.{known, sources}
 use Rattle.just_parts.specs.Layers.{given_by, layers_at}
 use Rattle.just_parts.specs.Needs.{same_number}
 use Rattle.just_parts.specs.Reading.{IsEvaluationOrder}
-use Rattle.just_module_variables.specs.Constants.{NamesFaultIn}
+use Rattle.just_module_variables.specs.Constants.{TellsFaultIn}
 use Rattle.just_module_variables.specs.Overrides.{last_of}
 use Rattle.just_module_variables.proofs.Asking.{tables_ordered}
 use Rattle.just_module_variables.proofs.Coming.{closed, covered, evaluated, kept, no_constants, no_settings, overrides_by_number, setting_told, settings_covered}
@@ -24,7 +24,7 @@ returns-in_err-check_expressions-clause-named g c =
     let v = c.args.variables.now in
     let es = lent c.in_ok-settings.settings.items in
     let k = known layers.syntax v.assignments v.functions in
-    IfErr-weaker c.from_residual-in_err-check_expressions.result (NamesFaultIn k es) _
+    IfErr-weaker c.from_residual-in_err-check_expressions.result (TellsFaultIn k es) _
     (λ error h. setting_told layers m v.assignments v.functions v.evaluation_order c.requires.variables es c.in_ok-settings.ensures h.e h.there error h.told) (search rules)
 
 pub assignments_const-requires-clause-order : goal.assignments_const-requires-clause-order

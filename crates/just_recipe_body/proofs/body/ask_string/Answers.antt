@@ -1,8 +1,8 @@
 use Rattle.std.proofs.Common.{refl}
 use Rattle.just_run_layers.specs.Evaluation.{StringOf}
 use Rattle.just_run_layers.specs.Host.{Given, Refused}
-use Rattle.just_run_layers.specs.Steps.{both}
-use Rattle.just_run_layers.proofs.StepLemmas.{took-asked, took-give, took-fail}
+use Rattle.just_run_layers.specs.Interactions.{both}
+use Rattle.just_run_layers.proofs.InteractionLemmas.{took-asked, took-give, took-fail}
 use Rattle.just_recipe_body.specs.Body.{around, contents_of}
 use Rattle.just_recipe_body.proofs.body.ask_string.Goals as goal
 

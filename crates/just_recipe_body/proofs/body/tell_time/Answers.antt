@@ -1,7 +1,7 @@
 use Rattle.just_run_layers.specs.declared.host.Entry.TheVariants.{Timestamp}
 use Rattle.just_run_layers.specs.Host.{Given, Refused}
-use Rattle.just_run_layers.specs.Steps.{both}
-use Rattle.just_run_layers.proofs.StepLemmas.{took-called, took-give, took-fail}
+use Rattle.just_run_layers.specs.Interactions.{both}
+use Rattle.just_run_layers.proofs.InteractionLemmas.{took-called, took-give, took-fail}
 use Rattle.just_recipe_body.proofs.body.tell_time.Goals as goal
 
 pub returns-in-Ok-clause-took : goal.returns-in-Ok-clause-took

@@ -1,8 +1,8 @@
 use Rattle.std.proofs.Common.{◌≡◌, ◌∙◌, ap}
 use Rattle.just_run_layers.specs.declared.host.Entry.TheVariants.{Confirm}
 use Rattle.just_run_layers.specs.Host.{Given, Refused}
-use Rattle.just_run_layers.specs.Steps.{both}
-use Rattle.just_run_layers.proofs.StepLemmas.{took-called, took-give, took-fail}
+use Rattle.just_run_layers.specs.Interactions.{both}
+use Rattle.just_run_layers.proofs.InteractionLemmas.{took-called, took-give, took-fail}
 use Rattle.just_recipe_body.specs.Confirmation.{is_yes, line_answered}
 use Rattle.just_recipe_body.proofs.confirmation.ask_host.Goals as goal
 

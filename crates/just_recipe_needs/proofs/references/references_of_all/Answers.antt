@@ -13,7 +13,7 @@ use Rattle.just_parts.specs.Needs.{has_number}
 use Rattle.just_recipe.specs.declared.dependency.UnresolvedDependency.{UnresolvedDependency}
 use Rattle.just_recipe.specs.declared.recipe.Recipe.{Recipe}
 use Rattle.just_recipe_needs.specs.Needed.{NeedsUnder}
-use Rattle.just_recipe_needs.specs.declared.collecting.Sources.{Sources}
+use Rattle.just_recipe_needs.specs.declared.collection.Sources.{Sources}
 use Rattle.just_recipe_needs.proofs.references.references_of_all.Goals as goal
 
 -- one more list of numbers

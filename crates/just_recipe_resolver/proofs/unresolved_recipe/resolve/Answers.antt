@@ -1,12 +1,12 @@
 use Rattle.std.proofs.Common.{ap, subst, sym}
 use Rattle.std.proofs.lemmas.Result.{IfErr-weaker, IfOk-weaker}
 use Rattle.just_module_contents.specs.Recipes.{lent}
-use Rattle.just_recipe_resolver.specs.Basis.{Basis, IsCovered}
+use Rattle.just_recipe_resolver.specs.Basis.{Basis, IsRecipeCovered}
 use Rattle.just_recipe_resolver.proofs.Along.{GivenRightly, OneKept, OneMade, OneTold, along_basis}
 use Rattle.just_recipe_resolver.proofs.unresolved_recipe.resolve.Goals as goal
 
 pub resolve_over-requires-clause-covered : goal.resolve_over-requires-clause-covered
-resolve_over-requires-clause-covered g c = subst (λ (b : Basis). IsCovered b c.args.recipe) (sym c.resolving_by-resolving.ensures.basis) c.requires.covered
+resolve_over-requires-clause-covered g c = subst (λ (b : Basis). IsRecipeCovered b c.args.recipe) (sym c.resolving_by-resolving.ensures.basis) c.requires.covered
 
 pub returns-clause-given : goal.returns-clause-given
 returns-clause-given g c =

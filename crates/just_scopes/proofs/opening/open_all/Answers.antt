@@ -5,8 +5,8 @@ use Rattle.std.proofs.lemmas.List.{map-append}
 use Rattle.std.proofs.lemmas.Option.{slice_get_read}
 use Rattle.just_errors.specs.declared.halt.Halt.TheVariants.{Memory}
 use Rattle.just_parts.specs.Needs.{same_number}
-use Rattle.just_run_layers.proofs.StepLemmas.{keeps-both, keeps-then, took-give, took-out}
-use Rattle.just_run_layers.specs.Steps.{Took, both, kept_by}
+use Rattle.just_run_layers.proofs.InteractionLemmas.{keeps-both, keeps-then, took-give, took-out}
+use Rattle.just_run_layers.specs.Interactions.{HasTrace, both, log_of}
 use Rattle.just_scopes.specs.Opening.{all_opened, around, handed_of, open_steps, opened_in, opened_of, openings}
 use Rattle.just_scopes.specs.Preorder.{placed}
 use Rattle.just_scopes.proofs.Turning.{IsOpening, at-end, at-place, is-listed, past-place, stops, turns}
@@ -19,8 +19,8 @@ open_next-requires g c =
     let used = contains same_number c.args.used.now in
     let handed = handed_of c.args.config.now c.args.overrides.now in
     let opened = map opened_of c.loop-place.opened.items in
-    let first = kept_by (g.H.Host.entries c.args.host.now) (g.E.Evaluation.requests c.args.evaluation.now) in
-    let now = kept_by (g.H.Host.entries c.loop-place.host) (g.E.Evaluation.requests c.loop-place.evaluation) in
+    let first = log_of (g.H.Host.entries c.args.host.now) (g.E.Evaluation.requests c.args.evaluation.now) in
+    let now = log_of (g.H.Host.entries c.loop-place.host) (g.E.Evaluation.requests c.loop-place.evaluation) in
     let p = both (g.E.Evaluation.promised c.args.evaluation.now) (g.H.Host.promised c.args.host.now) in
     let q = both (g.E.Evaluation.promised c.loop-place.evaluation) (g.H.Host.promised c.loop-place.host) in
     let at : slice_get modules c.loop-place.place ≡ Some m = slice_get_read modules (length modules) c.loop-place.place m refl c.loop-place-test.true c.index-modules-place.is in
@@ -42,20 +42,20 @@ returns-in_err-next-clause-took g c = λ sets found.
     let used = contains same_number c.args.used.now in
     let handed = handed_of c.args.config.now c.args.overrides.now in
     let opened = map opened_of c.loop-place.opened.items in
-    let first = kept_by (g.H.Host.entries c.args.host.now) (g.E.Evaluation.requests c.args.evaluation.now) in
-    let now = kept_by (g.H.Host.entries c.loop-place.host) (g.E.Evaluation.requests c.loop-place.evaluation) in
+    let first = log_of (g.H.Host.entries c.args.host.now) (g.E.Evaluation.requests c.args.evaluation.now) in
+    let now = log_of (g.H.Host.entries c.loop-place.host) (g.E.Evaluation.requests c.loop-place.evaluation) in
     let p = both (g.E.Evaluation.promised c.args.evaluation.now) (g.H.Host.promised c.args.host.now) in
     let q = both (g.E.Evaluation.promised c.loop-place.evaluation) (g.H.Host.promised c.loop-place.host) in
     let at : slice_get modules c.loop-place.place ≡ Some m = slice_get_read modules (length modules) c.loop-place.place m refl c.loop-place-test.true c.index-modules-place.is in
     let done = map placed (take c.loop-place.place modules) in
     let more = map placed (drop (c.loop-place.place + 1) modules) in
     let are = at-place used handed p q modules c.loop-place.place m at first now opened c.loop-place.invariant.3 in
-    let mid = kept_by (g.H.Host.entries c.open_next.new.host) (g.E.Evaluation.requests c.open_next.new.evaluation) in
+    let mid = log_of (g.H.Host.entries c.open_next.new.host) (g.E.Evaluation.requests c.open_next.new.evaluation) in
     let same : map opened_of c.as_slice.result.now ≡ opened = ap (map opened_of) c.as_slice.ensures.value in
     let out : c.from_residual.result ≡ Err c.in_err-next.field-0.0 = search rules in
-    subst (λ r. Took p (all_opened sets handed (map placed modules)) first mid (opened_in r)) (sym out)
+    subst (λ r. HasTrace p (all_opened sets handed (map placed modules)) first mid (opened_in r)) (sym out)
     (stops used handed p q (map placed modules) done more (placed m) first now opened are mid c.in_err-next.field-0.0
-    (λ sets found. subst (λ os. Took q (open_steps sets handed (placed m) (around os m.parent)) now mid (Err c.in_err-next.field-0.0)) same (c.in_err-next.ensures.took sets found)) sets found)
+    (λ sets found. subst (λ os. HasTrace q (open_steps sets handed (placed m) (around os m.parent)) now mid (Err c.in_err-next.field-0.0)) same (c.in_err-next.ensures.took sets found)) sets found)
 
 pub returns-in_err-push-clause-keeps : goal.returns-in_err-push-clause-keeps
 returns-in_err-push-clause-keeps g c = keeps-then _ _ _ c.loop-place.invariant.0 c.in_ok-next.ensures.keeps
@@ -70,24 +70,24 @@ returns-in_err-push-clause-took g c = λ sets found.
     let used = contains same_number c.args.used.now in
     let handed = handed_of c.args.config.now c.args.overrides.now in
     let opened = map opened_of c.loop-place.opened.items in
-    let first = kept_by (g.H.Host.entries c.args.host.now) (g.E.Evaluation.requests c.args.evaluation.now) in
-    let now = kept_by (g.H.Host.entries c.loop-place.host) (g.E.Evaluation.requests c.loop-place.evaluation) in
+    let first = log_of (g.H.Host.entries c.args.host.now) (g.E.Evaluation.requests c.args.evaluation.now) in
+    let now = log_of (g.H.Host.entries c.loop-place.host) (g.E.Evaluation.requests c.loop-place.evaluation) in
     let p = both (g.E.Evaluation.promised c.args.evaluation.now) (g.H.Host.promised c.args.host.now) in
     let q = both (g.E.Evaluation.promised c.loop-place.evaluation) (g.H.Host.promised c.loop-place.host) in
     let at : slice_get modules c.loop-place.place ≡ Some m = slice_get_read modules (length modules) c.loop-place.place m refl c.loop-place-test.true c.index-modules-place.is in
     let done = map placed (take c.loop-place.place modules) in
     let more = map placed (drop (c.loop-place.place + 1) modules) in
     let are = at-place used handed p q modules c.loop-place.place m at first now opened c.loop-place.invariant.3 in
-    let mid = kept_by (g.H.Host.entries c.open_next.new.host) (g.E.Evaluation.requests c.open_next.new.evaluation) in
+    let mid = log_of (g.H.Host.entries c.open_next.new.host) (g.E.Evaluation.requests c.open_next.new.evaluation) in
     let same : map opened_of c.as_slice.result.now ≡ opened = ap (map opened_of) c.as_slice.ensures.value in
     let s = both (g.E.Evaluation.promised c.open_next.new.evaluation) (g.H.Host.promised c.open_next.new.host) in
     let later = opened ++ opened_of c.in_ok-next.next ∷ [] in
     let turned = past-place used handed p q modules c.loop-place.place m at first now opened c.loop-place.invariant.3 s mid later
     (turns used handed p q (map placed modules) done more (placed m) first now opened are s (keeps-both _ _ _ _ c.in_ok-next.ensures.keeps c.in_ok-next.ensures.keeps_host) mid (opened_of c.in_ok-next.next)
-    (λ sets found. subst (λ os. Took q (open_steps sets handed (placed m) (around os m.parent)) now mid (Ok (opened_of c.in_ok-next.next))) same (c.in_ok-next.ensures.took sets found))
+    (λ sets found. subst (λ os. HasTrace q (open_steps sets handed (placed m) (around os m.parent)) now mid (Ok (opened_of c.in_ok-next.next))) same (c.in_ok-next.ensures.took sets found))
     c.in_ok-next.ensures.whose c.in_ok-next.ensures.bound later refl) in
     let out : c.from_residual-in_err-push.result ≡ Err Memory = search rules in
-    subst (λ r. Took p (all_opened sets handed (map placed modules)) first mid (opened_in r)) (sym out)
+    subst (λ r. HasTrace p (all_opened sets handed (map placed modules)) first mid (opened_in r)) (sym out)
     (turned.goes sets found mid (Err Memory) (took-out s (openings sets handed more later) mid mid refl))
 
 pub loop-place-preserved : goal.loop-place-preserved
@@ -97,21 +97,21 @@ loop-place-preserved g c =
     let used = contains same_number c.args.used.now in
     let handed = handed_of c.args.config.now c.args.overrides.now in
     let opened = map opened_of c.loop-place.opened.items in
-    let first = kept_by (g.H.Host.entries c.args.host.now) (g.E.Evaluation.requests c.args.evaluation.now) in
-    let now = kept_by (g.H.Host.entries c.loop-place.host) (g.E.Evaluation.requests c.loop-place.evaluation) in
+    let first = log_of (g.H.Host.entries c.args.host.now) (g.E.Evaluation.requests c.args.evaluation.now) in
+    let now = log_of (g.H.Host.entries c.loop-place.host) (g.E.Evaluation.requests c.loop-place.evaluation) in
     let p = both (g.E.Evaluation.promised c.args.evaluation.now) (g.H.Host.promised c.args.host.now) in
     let q = both (g.E.Evaluation.promised c.loop-place.evaluation) (g.H.Host.promised c.loop-place.host) in
     let at : slice_get modules c.loop-place.place ≡ Some m = slice_get_read modules (length modules) c.loop-place.place m refl c.loop-place-test.true c.index-modules-place.is in
     let done = map placed (take c.loop-place.place modules) in
     let more = map placed (drop (c.loop-place.place + 1) modules) in
     let are = at-place used handed p q modules c.loop-place.place m at first now opened c.loop-place.invariant.3 in
-    let mid = kept_by (g.H.Host.entries c.open_next.new.host) (g.E.Evaluation.requests c.open_next.new.evaluation) in
+    let mid = log_of (g.H.Host.entries c.open_next.new.host) (g.E.Evaluation.requests c.open_next.new.evaluation) in
     let same : map opened_of c.as_slice.result.now ≡ opened = ap (map opened_of) c.as_slice.ensures.value in
     let s = both (g.E.Evaluation.promised c.open_next.new.evaluation) (g.H.Host.promised c.open_next.new.host) in
     let later = opened ++ opened_of c.in_ok-next.next ∷ [] in
     let turned = past-place used handed p q modules c.loop-place.place m at first now opened c.loop-place.invariant.3 s mid later
     (turns used handed p q (map placed modules) done more (placed m) first now opened are s (keeps-both _ _ _ _ c.in_ok-next.ensures.keeps c.in_ok-next.ensures.keeps_host) mid (opened_of c.in_ok-next.next)
-    (λ sets found. subst (λ os. Took q (open_steps sets handed (placed m) (around os m.parent)) now mid (Ok (opened_of c.in_ok-next.next))) same (c.in_ok-next.ensures.took sets found))
+    (λ sets found. subst (λ os. HasTrace q (open_steps sets handed (placed m) (around os m.parent)) now mid (Ok (opened_of c.in_ok-next.next))) same (c.in_ok-next.ensures.took sets found))
     c.in_ok-next.ensures.whose c.in_ok-next.ensures.bound later refl) in
     let pushed : map opened_of c.push.new.self.items ≡ later = ap (map opened_of) c.in_ok-push.ensures.items ∙ map-append opened_of c.loop-place.opened.items (c.in_ok-next.next ∷ []) in (
       keeps-then _ _ _ c.loop-place.invariant.0 c.in_ok-next.ensures.keeps,
@@ -126,8 +126,8 @@ returns-clause-took g c = λ sets found.
     let used = contains same_number c.args.used.now in
     let handed = handed_of c.args.config.now c.args.overrides.now in
     let opened = map opened_of c.loop-place.opened.items in
-    let first = kept_by (g.H.Host.entries c.args.host.now) (g.E.Evaluation.requests c.args.evaluation.now) in
-    let now = kept_by (g.H.Host.entries c.loop-place.host) (g.E.Evaluation.requests c.loop-place.evaluation) in
+    let first = log_of (g.H.Host.entries c.args.host.now) (g.E.Evaluation.requests c.args.evaluation.now) in
+    let now = log_of (g.H.Host.entries c.loop-place.host) (g.E.Evaluation.requests c.loop-place.evaluation) in
     let p = both (g.E.Evaluation.promised c.args.evaluation.now) (g.H.Host.promised c.args.host.now) in
     let q = both (g.E.Evaluation.promised c.loop-place.evaluation) (g.H.Host.promised c.loop-place.host) in
     let last : c.loop-place.place ≡ length modules = omega (arith, c.loop-place.auto.place-end, c.loop-place-test.false) in
@@ -140,8 +140,8 @@ returns-clause-whose g c =
     let used = contains same_number c.args.used.now in
     let handed = handed_of c.args.config.now c.args.overrides.now in
     let opened = map opened_of c.loop-place.opened.items in
-    let first = kept_by (g.H.Host.entries c.args.host.now) (g.E.Evaluation.requests c.args.evaluation.now) in
-    let now = kept_by (g.H.Host.entries c.loop-place.host) (g.E.Evaluation.requests c.loop-place.evaluation) in
+    let first = log_of (g.H.Host.entries c.args.host.now) (g.E.Evaluation.requests c.args.evaluation.now) in
+    let now = log_of (g.H.Host.entries c.loop-place.host) (g.E.Evaluation.requests c.loop-place.evaluation) in
     let p = both (g.E.Evaluation.promised c.args.evaluation.now) (g.H.Host.promised c.args.host.now) in
     let q = both (g.E.Evaluation.promised c.loop-place.evaluation) (g.H.Host.promised c.loop-place.host) in
     let last : c.loop-place.place ≡ length modules = omega (arith, c.loop-place.auto.place-end, c.loop-place-test.false) in

@@ -4,7 +4,7 @@ use Rattle.std.specs.HashSet.{contains}
 use Rattle.just_parts.specs.Needs.{IsClosed, has_number, same_number}
 use Rattle.just_justfile.specs.Running.{known_of}
 use Rattle.just_run_layers.specs.Evaluation.{config_contents, in_set, set_of}
-use Rattle.just_run_layers.specs.Steps.{Took, both, kept_by}
+use Rattle.just_run_layers.specs.Interactions.{HasTrace, both, log_of}
 use Rattle.just_scopes.specs.Opening.{handed_of, open_steps, opened_as}
 use Rattle.just_scopes.specs.Opens.{IsSetFor, around_as, set_in}
 use Rattle.just_scopes.specs.Preorder.{placed}
@@ -20,8 +20,8 @@ returns-in_err-dotenv-clause-nothing_runs g c =
 pub returns-in_err-dotenv-clause-took : goal.returns-in_err-dotenv-clause-took
 returns-in_err-dotenv-clause-took g c = λ sets found.
     let out : c.from_residual.result ≡ Err c.in_err-dotenv.field-0.0 = search rules in
-    subst (λ r. Took (both (g.E.Evaluation.promised c.args.evaluation.now) (g.H.Host.promised c.args.host.now)) (open_steps sets (handed_of c.args.config.now c.args.overrides.now) (placed c.args.entry.now) (around_as c.args.outer.now))
-    (kept_by (g.H.Host.entries c.args.host.now) (g.E.Evaluation.requests c.args.evaluation.now)) (kept_by (g.H.Host.entries c.ask_pairs.new.host) (g.E.Evaluation.requests c.args.evaluation.now)) (opened_as r)) (sym out)
+    subst (λ r. HasTrace (both (g.E.Evaluation.promised c.args.evaluation.now) (g.H.Host.promised c.args.host.now)) (open_steps sets (handed_of c.args.config.now c.args.overrides.now) (placed c.args.entry.now) (around_as c.args.outer.now))
+    (log_of (g.H.Host.entries c.args.host.now) (g.E.Evaluation.requests c.args.evaluation.now)) (log_of (g.H.Host.entries c.ask_pairs.new.host) (g.E.Evaluation.requests c.args.evaluation.now)) (opened_as r)) (sym out)
     (stops-first (g.E.Evaluation.promised c.args.evaluation.now) (g.H.Host.promised c.args.host.now) (g.H.Host.promised c.ask_pairs.new.host) c.in_err-dotenv.ensures.keeps sets (handed_of c.args.config.now c.args.overrides.now) (placed c.args.entry.now) (around_as c.args.outer.now) _ _ _
     c.in_err-dotenv.field-0.0 c.in_err-dotenv.ensures.took)
 
@@ -32,8 +32,8 @@ returns-in_err-set-clause-nothing_runs g c =
 pub returns-in_err-set-clause-took : goal.returns-in_err-set-clause-took
 returns-in_err-set-clause-took g c = λ sets found.
     let out : c.from_residual-in_err-set.result ≡ Err Memory = search rules in
-    subst (λ r. Took (both (g.E.Evaluation.promised c.args.evaluation.now) (g.H.Host.promised c.args.host.now)) (open_steps sets (handed_of c.args.config.now c.args.overrides.now) (placed c.args.entry.now) (around_as c.args.outer.now))
-    (kept_by (g.H.Host.entries c.args.host.now) (g.E.Evaluation.requests c.args.evaluation.now)) (kept_by (g.H.Host.entries c.ask_pairs.new.host) (g.E.Evaluation.requests c.args.evaluation.now)) (opened_as r)) (sym out)
+    subst (λ r. HasTrace (both (g.E.Evaluation.promised c.args.evaluation.now) (g.H.Host.promised c.args.host.now)) (open_steps sets (handed_of c.args.config.now c.args.overrides.now) (placed c.args.entry.now) (around_as c.args.outer.now))
+    (log_of (g.H.Host.entries c.args.host.now) (g.E.Evaluation.requests c.args.evaluation.now)) (log_of (g.H.Host.entries c.ask_pairs.new.host) (g.E.Evaluation.requests c.args.evaluation.now)) (opened_as r)) (sym out)
     (stops-out (g.E.Evaluation.promised c.args.evaluation.now) (g.H.Host.promised c.args.host.now) (g.H.Host.promised c.ask_pairs.new.host) c.in_ok-dotenv.ensures.keeps sets (handed_of c.args.config.now c.args.overrides.now) (placed c.args.entry.now) (around_as c.args.outer.now) _ _ _
     c.in_ok-dotenv.dotenv c.in_ok-dotenv.ensures.took)
 
@@ -50,8 +50,8 @@ pub returns-in_err-scope-clause-took : goal.returns-in_err-scope-clause-took
 returns-in_err-scope-clause-took g c = λ sets found.
     let out : c.from_residual-in_err-scope.result ≡ Err c.in_err-scope.field-0.0 = search rules in
     let same : set_of c.as_ref.result ≡ set_in c.in_ok-set.set = search rules in
-    subst (λ r. Took (both (g.E.Evaluation.promised c.args.evaluation.now) (g.H.Host.promised c.args.host.now)) (open_steps sets (handed_of c.args.config.now c.args.overrides.now) (placed c.args.entry.now) (around_as c.args.outer.now))
-    (kept_by (g.H.Host.entries c.args.host.now) (g.E.Evaluation.requests c.args.evaluation.now)) (kept_by (g.H.Host.entries c.ask_pairs.new.host) (g.E.Evaluation.requests c.ask_scope.new.evaluation)) (opened_as r)) (sym out)
+    subst (λ r. HasTrace (both (g.E.Evaluation.promised c.args.evaluation.now) (g.H.Host.promised c.args.host.now)) (open_steps sets (handed_of c.args.config.now c.args.overrides.now) (placed c.args.entry.now) (around_as c.args.outer.now))
+    (log_of (g.H.Host.entries c.args.host.now) (g.E.Evaluation.requests c.args.evaluation.now)) (log_of (g.H.Host.entries c.ask_pairs.new.host) (g.E.Evaluation.requests c.ask_scope.new.evaluation)) (opened_as r)) (sym out)
     (stops-last (g.E.Evaluation.promised c.args.evaluation.now) (g.H.Host.promised c.args.host.now) (g.H.Host.promised c.ask_pairs.new.host) c.in_ok-dotenv.ensures.keeps sets (handed_of c.args.config.now c.args.overrides.now) (placed c.args.entry.now) (around_as c.args.outer.now) _ _ _
     c.in_ok-dotenv.dotenv c.in_ok-dotenv.ensures.took (set_of c.as_ref.result) (same ∙ set-asked c.in_ok-set.ensures sets found) _ c.in_err-scope.field-0.0 c.in_err-scope.ensures.took)
 

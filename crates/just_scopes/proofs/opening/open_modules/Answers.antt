@@ -3,7 +3,7 @@ use Rattle.std.specs.HashSet.{contains}
 use Rattle.std.specs.List.{Contains}
 use Rattle.just_graph.proofs.Members.{is_in}
 use Rattle.just_parts.specs.Needs.{same_number}
-use Rattle.just_run_layers.specs.Steps.{Took, both, kept_by}
+use Rattle.just_run_layers.specs.Interactions.{HasTrace, both, log_of}
 use Rattle.just_scopes.specs.Opening.{all_opened, handed_of, opened_in, opened_of}
 use Rattle.just_scopes.specs.Open.{whose_placed}
 use Rattle.just_scopes.specs.Preorder.{placed}
@@ -26,8 +26,8 @@ returns-clause-took g c = λ sets needs ps order.
     let qs = map placed c.as_slice.result.now in
     let value : qs ≡ map placed c.in_ok-modules.modules.items = ap (map placed) c.as_slice.ensures.value in
     let same : qs ≡ ps = value ∙ one-order root (map placed c.in_ok-modules.modules.items) ps c.in_ok-modules.ensures order in
-    subst (λ xs. Took (both (g.E.Evaluation.promised c.args.evaluation.now) (g.H.Host.promised c.args.host.now)) (all_opened sets handed xs) (kept_by (g.H.Host.entries c.args.host.now) (g.E.Evaluation.requests c.args.evaluation.now))
-    (kept_by (g.H.Host.entries c.open_all.new.host) (g.E.Evaluation.requests c.open_all.new.evaluation)) (opened_in c.open_all.result)) same
+    subst (λ xs. HasTrace (both (g.E.Evaluation.promised c.args.evaluation.now) (g.H.Host.promised c.args.host.now)) (all_opened sets handed xs) (log_of (g.H.Host.entries c.args.host.now) (g.E.Evaluation.requests c.args.evaluation.now))
+    (log_of (g.H.Host.entries c.open_all.new.host) (g.E.Evaluation.requests c.open_all.new.evaluation)) (opened_in c.open_all.result)) same
     (c.open_all.ensures.took sets (λ p i.
     sets-found answers root c.args.recipes.now c.args.tops.now (contains same_number c.in_ok-used.used) c.requires.can_run c.requires.bare c.in_ok-used.ensures sets needs p.justfile
     (placed-stand root ps order p (is_in p ps (subst (λ xs. Contains xs p) same i)))))

@@ -2,14 +2,14 @@ use Rattle.std.proofs.Common.{◌++◌, ◌+◌, ℕ, drop, ◌∷◌, [], List,
 use Rattle.just_ast_definitions.specs.declared.line.Line.{Line}
 use Rattle.just_names.specs.Texts.{Text}
 use Rattle.just_run_layers.specs.Host.{Answer}
-use Rattle.just_run_layers.specs.Steps.{Question, Steps, both}
-use Rattle.just_run_layers.proofs.StepLemmas.{keeps-then, keeps-self, keeps-both, took-then, took-give}
+use Rattle.just_run_layers.specs.Interactions.{Question, Interaction, both}
+use Rattle.just_run_layers.proofs.InteractionLemmas.{keeps-then, keeps-self, keeps-both, took-then, took-give}
 use Rattle.just_recipe_body.specs.Body.{BodyContents, contents_of, line_steps}
 use Rattle.just_recipe_body.proofs.StepEnds.{took-exit, took-gone}
 use Rattle.just_script_body.proofs.ScriptLemmas.{behind_steps, no-line, of-line, of-texts, took-none, took-one}
 use Rattle.just_script_body.proofs.lines.ask_texts.Goals as goal
 
-abbrev next : BodyContents → List Text → List Line → ℕ → Text → Steps (List Text)
+abbrev next : BodyContents → List Text → List Line → ℕ → Text → Interaction (List Text)
 next b done lines i text = behind_steps b (done ++ text ∷ []) (drop (i + 1) lines)
 
 pub loop-line-init : goal.loop-line-init

@@ -1,15 +1,15 @@
 use Rattle.std.proofs.Common.{◌+◌, ℕ, List, Option, Ok, arith, drop}
 use Rattle.just_names.specs.Texts.{Text}
 use Rattle.just_run_layers.specs.Host.{Answer}
-use Rattle.just_run_layers.specs.Steps.{Question, Steps, both}
-use Rattle.just_run_layers.proofs.StepLemmas.{keeps-then, keeps-self, keeps-both, took-then, took-give}
+use Rattle.just_run_layers.specs.Interactions.{Question, Interaction, both}
+use Rattle.just_run_layers.proofs.InteractionLemmas.{keeps-then, keeps-self, keeps-both, took-then, took-give}
 use Rattle.just_recipe_body.specs.Body.{show_steps}
 use Rattle.just_recipe_body.proofs.StepEnds.{took-exit}
 use Rattle.just_script_body.specs.ScriptBody.{show_all_steps}
 use Rattle.just_script_body.proofs.ScriptLemmas.{took-none, took-one}
 use Rattle.just_script_body.proofs.lines.show_all.Goals as goal
 
-abbrev next : List Text → ℕ → Unit {0} → Steps (Unit {0})
+abbrev next : List Text → ℕ → Unit {0} → Interaction (Unit {0})
 next texts i _ = show_all_steps (drop (i + 1) texts)
 
 pub returns-in_err-show_text-clause-keeps : goal.returns-in_err-show_text-clause-keeps

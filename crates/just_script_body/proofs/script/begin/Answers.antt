@@ -1,14 +1,14 @@
 use Rattle.std.proofs.Common.{Option}
 use Rattle.just_names.specs.Texts.{Text}
 use Rattle.just_run_layers.specs.Host.{Answer}
-use Rattle.just_run_layers.specs.Steps.{Question, Steps, and_then, both}
-use Rattle.just_run_layers.proofs.StepLemmas.{keeps-then, keeps-self, keeps-both, took-then}
+use Rattle.just_run_layers.specs.Interactions.{Question, Interaction, and_then, both}
+use Rattle.just_run_layers.proofs.InteractionLemmas.{keeps-then, keeps-self, keeps-both, took-then}
 use Rattle.just_recipe_body.specs.Body.{BodyContents, contents_of, format_steps, time_steps}
 use Rattle.just_recipe_body.proofs.StepEnds.{took-exit}
 use Rattle.just_script_body.specs.ScriptBody.{show_time_steps}
 use Rattle.just_script_body.proofs.script.begin.Goals as goal
 
-abbrev next : BodyContents → Option Text → Steps (Unit {0})
+abbrev next : BodyContents → Option Text → Interaction (Unit {0})
 next b format = and_then (time_steps format) (show_time_steps b)
 
 pub returns-clause-keeps_host : goal.returns-clause-keeps_host

@@ -5,14 +5,14 @@ use Rattle.just_errors.specs.declared.run_error.RunError.{RunError}
 use Rattle.just_run_layers.specs.declared.host.Entry.TheVariants.{Script}
 use Rattle.just_run_layers.specs.declared.run_answer.RunAnswer.{RunAnswer}
 use Rattle.just_run_layers.specs.Host.{Answer, Ran}
-use Rattle.just_run_layers.specs.Steps.{Give, Question, both}
-use Rattle.just_run_layers.proofs.StepLemmas.{took-called, took-stop}
+use Rattle.just_run_layers.specs.Interactions.{Return, Question, both}
+use Rattle.just_run_layers.proofs.InteractionLemmas.{took-called, took-stop}
 use Rattle.just_recipe_body.specs.Attributes.{continues_on}
 use Rattle.just_recipe_body.specs.Body.{BodyContents, contents_of, given}
 use Rattle.just_recipe_body.specs.Judging.{judged, no_marks}
-use Rattle.just_recipe_body.specs.declared.judging.Next.{Next}
-use Rattle.just_recipe_body.specs.declared.judging.Program.TheVariants as program
-use Rattle.just_recipe_body.specs.declared.judging.Teller.{Teller}
+use Rattle.just_recipe_body.specs.declared.judgement.Next.{Next}
+use Rattle.just_recipe_body.specs.declared.judgement.Program.TheVariants as program
+use Rattle.just_recipe_body.specs.declared.judgement.Teller.{Teller}
 use Rattle.just_recipe_body.proofs.StepEnds.{took-given, took-map, took-refused}
 use Rattle.just_script_body.specs.ScriptBody.{script_answered, teller_of}
 use Rattle.just_script_body.proofs.script.call_script.Goals as goal
@@ -40,4 +40,4 @@ returns-in-Err-clause-took g c = λ e requests.
     let is : o ≡ Err c.in-Err.error = as-judged b c.teller_of-teller.result c.in_ok-answer.answer c.judge.result c.judge.ensures c.teller_of-teller.ensures ∙ c.in-Err.is in
     took-called e (g.H.Host.promised c.args.host.now) (Script c.args.call.now) (script_answered b) (Ran c.in_ok-answer.answer) requests _ _ _ _
     c.in_ok-answer.ensures.answers c.in_ok-answer.ensures.recorded
-    (took-stop p (given o) (λ next. Give tt) _ _ (Failed c.in-Err.error) (took-refused p _ c.in-Err.error o is))
+    (took-stop p (given o) (λ next. Return tt) _ _ (Failed c.in-Err.error) (took-refused p _ c.in-Err.error o is))

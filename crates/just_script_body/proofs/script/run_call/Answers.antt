@@ -1,16 +1,16 @@
 use Rattle.std.proofs.Common.{List, Option, refl}
 use Rattle.just_names.specs.Texts.{Text}
 use Rattle.just_run_layers.specs.Host.{Answer}
-use Rattle.just_run_layers.specs.Steps.{Question, Steps, both}
+use Rattle.just_run_layers.specs.Interactions.{Question, Interaction, both}
 use Rattle.just_run_layers.specs.declared.calls.Executor.{Executor}
 use Rattle.just_run_layers.specs.declared.environment.EnvironmentChange.{EnvironmentChange}
-use Rattle.just_run_layers.proofs.StepLemmas.{keeps-self, keeps-both, took-then}
+use Rattle.just_run_layers.proofs.InteractionLemmas.{keeps-self, keeps-both, took-then}
 use Rattle.just_recipe_body.specs.Body.{BodyContents, contents_of, environment_steps}
 use Rattle.just_recipe_body.proofs.StepEnds.{took-exit, took-gone}
 use Rattle.just_script_body.specs.ScriptBody.{script_call, script_call_steps}
 use Rattle.just_script_body.proofs.script.run_call.Goals as goal
 
-abbrev next : BodyContents → Executor → List Text → Option Text → List EnvironmentChange → Steps (Unit {0})
+abbrev next : BodyContents → Executor → List Text → Option Text → List EnvironmentChange → Interaction (Unit {0})
 next b executor texts directory changes = script_call_steps b (script_call b executor texts directory changes)
 
 pub returns-in_err-changes-clause-took : goal.returns-in_err-changes-clause-took

@@ -1,14 +1,14 @@
 use Rattle.std.proofs.Common.{List, Option}
 use Rattle.just_names.specs.Texts.{Text}
 use Rattle.just_run_layers.specs.Host.{Answer}
-use Rattle.just_run_layers.specs.Steps.{Question, Steps, and_then, both}
-use Rattle.just_run_layers.proofs.StepLemmas.{keeps-then, keeps-self, keeps-both, took-then}
+use Rattle.just_run_layers.specs.Interactions.{Question, Interaction, and_then, both}
+use Rattle.just_run_layers.proofs.InteractionLemmas.{keeps-then, keeps-self, keeps-both, took-then}
 use Rattle.just_recipe_body.specs.Body.{BodyContents, contents_of}
 use Rattle.just_recipe_body.proofs.StepEnds.{took-exit}
 use Rattle.just_script_body.specs.ScriptBody.{begin_steps, is_shown, show_if_steps, shown_steps, texts_steps, unless_dry_steps}
 use Rattle.just_script_body.proofs.script.run_script.Goals as goal
 
-abbrev next : BodyContents → Unit {0} → Steps (Unit {0})
+abbrev next : BodyContents → Unit {0} → Interaction (Unit {0})
 next b _ = and_then (texts_steps b b.recipe.body) (shown_steps b)
 
 pub ask_texts-requires : goal.ask_texts-requires

@@ -1,9 +1,9 @@
 use Rattle.std.proofs.Common.{List, Option, Ok, Err}
 use Rattle.just_names.specs.Texts.{Text}
 use Rattle.just_run_layers.specs.Host.{Answer}
-use Rattle.just_run_layers.specs.Steps.{Question, both}
+use Rattle.just_run_layers.specs.Interactions.{Question, both}
 use Rattle.just_run_layers.specs.declared.calls.Executor.{Executor}
-use Rattle.just_run_layers.proofs.StepLemmas.{keeps-then, keeps-self, keeps-both, took-then}
+use Rattle.just_run_layers.proofs.InteractionLemmas.{keeps-then, keeps-self, keeps-both, took-then}
 use Rattle.just_recipe_body.specs.Body.{BodyContents, contents_of, directory_steps, given}
 use Rattle.just_recipe_body.proofs.StepEnds.{took-exit}
 use Rattle.just_script_body.specs.Executors.{executor_of}

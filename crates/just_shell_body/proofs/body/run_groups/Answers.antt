@@ -7,11 +7,11 @@ use Rattle.just_ast_definitions.specs.declared.line.Line.{Line}
 use Rattle.just_errors.specs.declared.halt.Halt.{Halt}
 use Rattle.just_run_layers.specs.Covering.{module_of}
 use Rattle.just_run_layers.specs.Host.{Answer}
-use Rattle.just_run_layers.specs.Steps.{Question, both}
-use Rattle.just_run_layers.proofs.StepLemmas.{keeps-then, keeps-both, took-then, took-give}
+use Rattle.just_run_layers.specs.Interactions.{Question, both}
+use Rattle.just_run_layers.proofs.InteractionLemmas.{keeps-then, keeps-both, took-then, took-give}
 use Rattle.just_recipe_body.specs.Body.{BodyContents, contents_of}
 use Rattle.just_recipe_body.specs.declared.body.Preparation.{Preparation}
-use Rattle.just_recipe_body.specs.declared.judging.Next.TheVariants.{Onward, Ended}
+use Rattle.just_recipe_body.specs.declared.judgement.Next.TheVariants.{Onward, Ended}
 use Rattle.just_recipe_body.proofs.StepEnds.{took-exit}
 use Rattle.just_shell_body.specs.Lines.{IsGroupCovered, groups}
 use Rattle.just_shell_body.specs.ShellBody.{group_steps, lines_steps, unless_ended}

@@ -3,15 +3,15 @@ use Rattle.std.specs.Prelude.{Result}
 use Rattle.just_ast_definitions.specs.declared.line.Line.{Line}
 use Rattle.just_errors.specs.declared.halt.Halt.{Halt}
 use Rattle.just_run_layers.specs.Host.{Answer}
-use Rattle.just_run_layers.specs.Steps.{Kept, Question, Steps, Took, both, kept_by}
-use Rattle.just_run_layers.proofs.StepLemmas.{keeps-then, keeps-self, keeps-both, took-then}
+use Rattle.just_run_layers.specs.Interactions.{Log, Question, Interaction, HasTrace, both, log_of}
+use Rattle.just_run_layers.proofs.InteractionLemmas.{keeps-then, keeps-self, keeps-both, took-then}
 use Rattle.just_recipe_body.specs.Body.{BodyContents, contents_of, prepare_steps}
 use Rattle.just_recipe_body.specs.declared.body.Preparation.{Preparation}
 use Rattle.just_recipe_body.proofs.StepEnds.{took-exit}
 use Rattle.just_shell_body.specs.ShellBody.{lines_steps}
 use Rattle.just_shell_body.proofs.body.run_shell.Goals as goal
 
-abbrev next : BodyContents → Preparation → Steps (Unit {0})
+abbrev next : BodyContents → Preparation → Interaction (Unit {0})
 next b prep = lines_steps b prep b.recipe.body
 
 pub returns-in_err-preparation-clause-took : goal.returns-in_err-preparation-clause-took
@@ -32,7 +32,7 @@ returns-clause-took g c =
     let q : Question → Option Answer = both (g.E.Evaluation.promised c.prepare.new.evaluation) h in
     let b : BodyContents = contents_of (g.S.Syntax.answers c.args.body.now.syntax.now) c.args.body.now in
     let prep : Preparation = c.in_ok-preparation.preparation in
-    let mid : Kept = kept_by (g.H.Host.entries c.args.host.now) (g.E.Evaluation.requests c.prepare.new.evaluation) in
-    let new : Kept = kept_by (g.H.Host.entries c.run_groups.new.host) (g.E.Evaluation.requests c.run_groups.new.evaluation) in
+    let mid : Log = log_of (g.H.Host.entries c.args.host.now) (g.E.Evaluation.requests c.prepare.new.evaluation) in
+    let new : Log = log_of (g.H.Host.entries c.run_groups.new.host) (g.E.Evaluation.requests c.run_groups.new.evaluation) in
     took-then p q (keeps-both _ _ h h c.in_ok-preparation.ensures.keeps (keeps-self h)) (prepare_steps b) (next b) _ mid new prep c.run_groups.result (c.in_ok-preparation.ensures.took h (g.H.Host.entries c.args.host.now))
-    (subst (λ (ls : List Line). Took q (lines_steps b prep ls) mid new c.run_groups.result) c.as_slice-lines.ensures c.run_groups.ensures.took)
+    (subst (λ (ls : List Line). HasTrace q (lines_steps b prep ls) mid new c.run_groups.result) c.as_slice-lines.ensures c.run_groups.ensures.took)

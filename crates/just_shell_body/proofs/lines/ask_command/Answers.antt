@@ -3,8 +3,8 @@ use Rattle.just_ast_definitions.specs.declared.line.Line.{Line}
 use Rattle.just_names.specs.Texts.{Text}
 use Rattle.just_run_layers.specs.Covering.{module_of}
 use Rattle.just_run_layers.specs.Host.{Answer}
-use Rattle.just_run_layers.specs.Steps.{Give, Question, Steps, both, kept_by}
-use Rattle.just_run_layers.proofs.StepLemmas.{keeps-self, keeps-both, took-then, took-give}
+use Rattle.just_run_layers.specs.Interactions.{Return, Question, Interaction, both, log_of}
+use Rattle.just_run_layers.proofs.InteractionLemmas.{keeps-self, keeps-both, took-then, took-give}
 use Rattle.just_recipe_body.specs.Body.{BodyContents, contents_of}
 use Rattle.just_shell_body.specs.Lines.{command_of, text_steps}
 use Rattle.just_shell_body.specs.declared.lines.GroupCommand.{GroupCommand}
@@ -12,8 +12,8 @@ use Rattle.just_shell_body.proofs.ShellLemmas.{begins-first, group-bound, of-gro
 use Rattle.just_recipe_body.proofs.StepEnds.{took-exit, took-gone}
 use Rattle.just_shell_body.proofs.lines.ask_command.Goals as goal
 
-abbrev next : BodyContents → Line → List Line → Text → Steps (Option GroupCommand)
-next b line lines text = Give (command_of (b.syntax.sigils line b.context.settings) line lines text)
+abbrev next : BodyContents → Line → List Line → Text → Interaction (Option GroupCommand)
+next b line lines text = Return (command_of (b.syntax.sigils line b.context.settings) line lines text)
 
 pub ask_text-requires : goal.ask_text-requires
 ask_text-requires g c =
@@ -54,7 +54,7 @@ returns-in_err-sigils-clause-took g c = λ h entries.
     let r = c.from_residual-in_err-sigils.result in
     of-group p b line rest c.args.lines.now _ _ r c.in-Some.ensures.cases.0 (sym c.is_skipped.ensures ∙ c.if-is_skipped.false)
     (took-then p q (keeps-both _ _ h h c.in_ok-text.ensures.keeps (keeps-self h)) (text_steps b false [] c.args.lines.now) (next b line rest) _ _ _ c.in_ok-text.text r (c.in_ok-text.ensures.took h entries)
-    (took-gone q (next b line rest c.in_ok-text.text) (kept_by entries (g.E.Evaluation.requests c.ask_text.new.evaluation)) _ r c.from_residual-in_err-sigils.ensures.1 refl))
+    (took-gone q (next b line rest c.in_ok-text.text) (log_of entries (g.E.Evaluation.requests c.ask_text.new.evaluation)) _ r c.from_residual-in_err-sigils.ensures.1 refl))
 
 pub returns-in_err-command_said-clause-took : goal.returns-in_err-command_said-clause-took
 returns-in_err-command_said-clause-took g c = λ h entries.
@@ -66,7 +66,7 @@ returns-in_err-command_said-clause-took g c = λ h entries.
     let r = c.from_residual-in_err-command_said.result in
     of-group p b line rest c.args.lines.now _ _ r c.in-Some.ensures.cases.0 (sym c.is_skipped.ensures ∙ c.if-is_skipped.false)
     (took-then p q (keeps-both _ _ h h c.in_ok-text.ensures.keeps (keeps-self h)) (text_steps b false [] c.args.lines.now) (next b line rest) _ _ _ c.in_ok-text.text r (c.in_ok-text.ensures.took h entries)
-    (took-gone q (next b line rest c.in_ok-text.text) (kept_by entries (g.E.Evaluation.requests c.ask_text.new.evaluation)) _ r c.from_residual-in_err-command_said.ensures.1 refl))
+    (took-gone q (next b line rest c.in_ok-text.text) (log_of entries (g.E.Evaluation.requests c.ask_text.new.evaluation)) _ r c.from_residual-in_err-command_said.ensures.1 refl))
 
 pub returns-clause-took : goal.returns-clause-took
 returns-clause-took g c = λ h entries.
@@ -77,4 +77,4 @@ returns-clause-took g c = λ h entries.
     let rest : List Line = c.in-Some.rest.now in
     of-group p b line rest c.args.lines.now _ _ _ c.in-Some.ensures.cases.0 (sym c.is_skipped.ensures ∙ c.if-is_skipped.false)
     (took-then p q (keeps-both _ _ h h c.in_ok-text.ensures.keeps (keeps-self h)) (text_steps b false [] c.args.lines.now) (next b line rest) _ _ _ c.in_ok-text.text _ (c.in_ok-text.ensures.took h entries)
-    (rw (c.in_ok-command_said.ensures, c.as_slice.ensures, c.as_str.ensures, c.in_ok-sigils.ensures.are) (took-give q (kept_by entries (g.E.Evaluation.requests c.ask_text.new.evaluation)) (command_of (b.syntax.sigils line b.context.settings) line rest c.in_ok-text.text))))
+    (rw (c.in_ok-command_said.ensures, c.as_slice.ensures, c.as_str.ensures, c.in_ok-sigils.ensures.are) (took-give q (log_of entries (g.E.Evaluation.requests c.ask_text.new.evaluation)) (command_of (b.syntax.sigils line b.context.settings) line rest c.in_ok-text.text))))

@@ -3,10 +3,10 @@ use Rattle.just_ast_definitions.specs.declared.line.Line.{Line}
 use Rattle.just_names.specs.Texts.{Text}
 use Rattle.just_parts.specs.Syntax.{SyntaxAnswers}
 use Rattle.just_run_layers.specs.Host.{Answer}
-use Rattle.just_run_layers.specs.Steps.{Give, Question, both, kept_by}
-use Rattle.just_run_layers.proofs.StepLemmas.{keeps-then, keeps-self, keeps-both, took-then, took-give}
+use Rattle.just_run_layers.specs.Interactions.{Return, Question, both, log_of}
+use Rattle.just_run_layers.proofs.InteractionLemmas.{keeps-then, keeps-self, keeps-both, took-then, took-give}
 use Rattle.just_recipe_body.specs.Body.{BodyContents, contents_of, line_steps}
-use Rattle.just_shell_body.specs.Lines.{BeginsGroup, trimmed}
+use Rattle.just_shell_body.specs.Lines.{TextBeginsGroup, trimmed}
 use Rattle.just_recipe_body.proofs.StepEnds.{took-exit, took-gone}
 use Rattle.just_shell_body.proofs.TextLemmas.{begins-on, part-begins, one-line, no-lines}
 use Rattle.just_shell_body.proofs.lines.ask_text.Goals as goal
@@ -50,7 +50,7 @@ loop-line-preserved g c =
     record {
       keeps = keeps-then _ _ _ c.loop-line.invariant.keeps c.in_ok-part.ensures.keeps;
       start = λ h. absurd (cc);
-      later = λ _. subst (BeginsGroup s b.context.settings c.args.lines.now) (sym pushed)
+      later = λ _. subst (TextBeginsGroup s b.context.settings c.args.lines.now) (sym pushed)
           (begins-on s b.context.settings c.args.lines.now line c.loop-line.line-index c.loop-line.continued (string_bytes c.loop-line.text) (trimmed (s.is_continuation line) part) c.loop-line-test.true c.line-item.is
           c.loop-line.invariant.start c.loop-line.invariant.later
           (part-begins s b.context.settings g.E.Evaluation.sigils g.E.Evaluation.continues c.requires.same line c.loop-line.continued part c.in_ok-part.ensures.begins c.in_ok-part.ensures.ends));
@@ -70,7 +70,7 @@ returns-in_err-from_string-clause-took g c = λ h entries.
     let r = c.from_residual-in_err-from_string.result in
     c.loop-line.invariant.rest h entries _ r
     (no-lines p b c.loop-line.continued (string_bytes c.loop-line.text) c.loop-line.line-index c.args.lines.now _ _ r (omega (arith, c.loop-line-test.false))
-    (took-gone p (Give (string_bytes c.loop-line.text)) (kept_by entries (g.E.Evaluation.requests c.loop-line.evaluation)) _ r c.from_residual-in_err-from_string.ensures.1 refl))
+    (took-gone p (Return (string_bytes c.loop-line.text)) (log_of entries (g.E.Evaluation.requests c.loop-line.evaluation)) _ r c.from_residual-in_err-from_string.ensures.1 refl))
 
 pub returns-clause-took : goal.returns-clause-took
 returns-clause-took g c = λ h entries.

@@ -4,17 +4,17 @@ use Rattle.just_errors.specs.declared.halt.Halt.{Halt}
 use Rattle.just_names.specs.Texts.{Text}
 use Rattle.just_run_layers.specs.declared.host.Entry.{Entry}
 use Rattle.just_run_layers.specs.Host.{Answer, KeepsPromises}
-use Rattle.just_run_layers.specs.Steps.{Kept, Took, both, kept_by}
+use Rattle.just_run_layers.specs.Interactions.{Log, HasTrace, both, log_of}
 use Rattle.just_recipe_body.specs.Body.{contents_of}
-use Rattle.just_shell_body.specs.Lines.{BeginsGroup, text_steps}
+use Rattle.just_shell_body.specs.Lines.{TextBeginsGroup, text_steps}
 use Rattle.just_shell_body.proofs.lines.ask_text.Given as goal
 
 abbrev pub invariant-loop-line : goal.invariant-loop-line
 invariant-loop-line g l = record {
   keeps : KeepsPromises (g.E.Evaluation.promised l.initial.evaluation) (g.E.Evaluation.promised l.evaluation);
   start : l.continued ≡ false → (l.line-index ≡ 0) × (string_bytes l.text ≡ []);
-  later : l.continued ≡ true → BeginsGroup (g.S.Syntax.answers l.body.syntax.now) l.body.context.now.settings.now l.lines (string_bytes l.text);
-  rest : (h : Entry → Option Answer) (entries : List Entry) (new : Kept) (r : Result Text Halt) →
-      Took (both (g.E.Evaluation.promised l.evaluation) h) (text_steps (contents_of (g.S.Syntax.answers l.body.syntax.now) l.body) l.continued (string_bytes l.text) (drop l.line-index l.lines)) (kept_by entries (g.E.Evaluation.requests l.evaluation)) new r →
-      Took (both (g.E.Evaluation.promised l.initial.evaluation) h) (text_steps (contents_of (g.S.Syntax.answers l.body.syntax.now) l.body) false [] l.lines) (kept_by entries (g.E.Evaluation.requests l.initial.evaluation)) new r;
+  later : l.continued ≡ true → TextBeginsGroup (g.S.Syntax.answers l.body.syntax.now) l.body.context.now.settings.now l.lines (string_bytes l.text);
+  rest : (h : Entry → Option Answer) (entries : List Entry) (new : Log) (r : Result Text Halt) →
+      HasTrace (both (g.E.Evaluation.promised l.evaluation) h) (text_steps (contents_of (g.S.Syntax.answers l.body.syntax.now) l.body) l.continued (string_bytes l.text) (drop l.line-index l.lines)) (log_of entries (g.E.Evaluation.requests l.evaluation)) new r →
+      HasTrace (both (g.E.Evaluation.promised l.initial.evaluation) h) (text_steps (contents_of (g.S.Syntax.answers l.body.syntax.now) l.body) false [] l.lines) (log_of entries (g.E.Evaluation.requests l.initial.evaluation)) new r;
 }

@@ -3,14 +3,14 @@ use Rattle.std.specs.Prelude.{Result}
 use Rattle.just_errors.specs.declared.run_error.RunError.{RunError}
 use Rattle.just_run_layers.specs.declared.host.Entry.TheVariants.{Shell}
 use Rattle.just_run_layers.specs.Host.{Answer, Ran}
-use Rattle.just_run_layers.specs.Steps.{Question, both}
-use Rattle.just_run_layers.proofs.StepLemmas.{took-called}
+use Rattle.just_run_layers.specs.Interactions.{Question, both}
+use Rattle.just_run_layers.proofs.InteractionLemmas.{took-called}
 use Rattle.just_recipe_body.specs.Attributes.{continues_on}
 use Rattle.just_recipe_body.specs.Body.{BodyContents, contents_of}
 use Rattle.just_recipe_body.specs.Judging.{judged}
 use Rattle.just_shell_body.specs.ShellBody.{shell_answered, teller_of}
-use Rattle.just_recipe_body.specs.declared.judging.Next.{Next}
-use Rattle.just_recipe_body.specs.declared.judging.Program.TheVariants as program
+use Rattle.just_recipe_body.specs.declared.judgement.Next.{Next}
+use Rattle.just_recipe_body.specs.declared.judgement.Program.TheVariants as program
 use Rattle.just_shell_body.specs.declared.lines.GroupCommand.{GroupCommand}
 use Rattle.just_recipe_body.proofs.StepEnds.{took-given, took-refused}
 use Rattle.just_shell_body.proofs.shell.call_shell.Goals as goal

@@ -1,7 +1,7 @@
 use Rattle.std.proofs.Common.{Option}
 use Rattle.just_run_layers.specs.Host.{Answer}
-use Rattle.just_run_layers.specs.Steps.{Question, both}
-use Rattle.just_run_layers.proofs.StepLemmas.{keeps-then, keeps-self, keeps-both, took-then}
+use Rattle.just_run_layers.specs.Interactions.{Question, both}
+use Rattle.just_run_layers.proofs.InteractionLemmas.{keeps-then, keeps-self, keeps-both, took-then}
 use Rattle.just_recipe_body.specs.Body.{BodyContents, contents_of, time_steps}
 use Rattle.just_shell_body.specs.ShellBody.{show_command_steps, timed_steps, unless_dry_steps}
 use Rattle.just_recipe_body.specs.declared.body.Preparation.{Preparation}

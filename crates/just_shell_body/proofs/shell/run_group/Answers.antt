@@ -1,11 +1,11 @@
 use Rattle.std.proofs.Common.{Option, None, Some, Ok}
 use Rattle.just_run_layers.specs.Host.{Answer}
-use Rattle.just_run_layers.specs.Steps.{Question, both}
-use Rattle.just_run_layers.proofs.StepLemmas.{keeps-then, keeps-self, keeps-both, took-then, took-give}
+use Rattle.just_run_layers.specs.Interactions.{Question, both}
+use Rattle.just_run_layers.proofs.InteractionLemmas.{keeps-then, keeps-self, keeps-both, took-then, took-give}
 use Rattle.just_recipe_body.specs.Body.{BodyContents, contents_of}
 use Rattle.just_shell_body.specs.Lines.{group_command_steps}
 use Rattle.just_shell_body.specs.ShellBody.{command_steps}
-use Rattle.just_recipe_body.specs.declared.judging.Next.TheVariants.{Onward}
+use Rattle.just_recipe_body.specs.declared.judgement.Next.TheVariants.{Onward}
 use Rattle.just_recipe_body.proofs.StepEnds.{took-exit}
 use Rattle.just_shell_body.proofs.shell.run_group.Goals as goal
 

@@ -1,19 +1,19 @@
 use Rattle.std.proofs.Common.{Option, refl}
 use Rattle.just_run_layers.specs.Host.{Answer}
-use Rattle.just_run_layers.specs.Steps.{Question, Steps, both}
-use Rattle.just_run_layers.proofs.StepLemmas.{keeps-self, keeps-both, took-then}
+use Rattle.just_run_layers.specs.Interactions.{Question, Interaction, both}
+use Rattle.just_run_layers.proofs.InteractionLemmas.{keeps-self, keeps-both, took-then}
 use Rattle.just_run_layers.specs.declared.environment.EnvironmentChange.{EnvironmentChange}
 use Rattle.std.proofs.Common.{List}
 use Rattle.just_recipe_body.specs.Body.{BodyContents, contents_of, environment_steps}
 use Rattle.just_shell_body.specs.ShellBody.{shell_call, shell_call_steps}
 use Rattle.just_recipe_body.specs.declared.body.Preparation.{Preparation}
-use Rattle.just_recipe_body.specs.declared.judging.Next.{Next}
+use Rattle.just_recipe_body.specs.declared.judgement.Next.{Next}
 use Rattle.just_shell_body.specs.declared.lines.GroupCommand.{GroupCommand}
 use Rattle.just_shell_body.proofs.ShellLemmas.{of-run}
 use Rattle.just_recipe_body.proofs.StepEnds.{took-exit, took-gone}
 use Rattle.just_shell_body.proofs.shell.run_unless_dry.Goals as goal
 
-abbrev next : BodyContents → Preparation → GroupCommand → List EnvironmentChange → Steps Next
+abbrev next : BodyContents → Preparation → GroupCommand → List EnvironmentChange → Interaction Next
 next b prep command changes = shell_call_steps b command (shell_call b prep.working_directory command.text changes)
 
 pub returns-in_err-changes-clause-took : goal.returns-in_err-changes-clause-took

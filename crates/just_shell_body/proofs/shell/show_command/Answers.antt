@@ -1,5 +1,5 @@
 use Rattle.std.proofs.Common.{sym, refl}
-use Rattle.just_run_layers.specs.Steps.{both}
+use Rattle.just_run_layers.specs.Interactions.{both}
 use Rattle.just_recipe_body.specs.Body.{BodyContents, contents_of}
 use Rattle.just_shell_body.proofs.ShellLemmas.{not-shown, of-shown, is-told}
 use Rattle.just_recipe_body.proofs.StepEnds.{took-gone}

@@ -1,11 +1,11 @@
 use Rattle.std.proofs.lemmas.Result.{IfErr-weaker}
 use Rattle.just_names.specs.Texts.{texts}
-use Rattle.justrun_program.specs.Answers.{IsFault, over, unbundled}
+use Rattle.justrun_program.specs.Answers.{IsProgramFault, over, unbundled}
 use Rattle.justrun_program.proofs.command.run_bundle.Goals as goal
 
 pub returns-in-Ok-clause-fault : goal.returns-in-Ok-clause-fault
 returns-in-Ok-clause-fault g c =
-    IfErr-weaker c.run_sources.result _ (IsFault c.args.text.now c.args.root.now (texts c.args.words.now))
+    IfErr-weaker c.run_sources.result _ (IsProgramFault c.args.text.now c.args.root.now (texts c.args.words.now))
     (λ e f. over c.in-Ok.sources e c.in-Ok.ensures.files f)
     c.run_sources.ensures.fault
 

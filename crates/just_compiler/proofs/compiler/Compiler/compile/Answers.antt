@@ -5,13 +5,13 @@ use Rattle.just_parts.specs.Asts.{root_ast_key, same_ast_key}
 use Rattle.just_errors.specs.Causes.{Reports}
 use Rattle.just_paths.specs.declared.modulepath.Modulepath.{Modulepath}
 use Rattle.just_errors.proofs.Lifts.{lifted}
-use Rattle.just_loader.specs.Keys.{NamesInFiles}
+use Rattle.just_loader.specs.Keys.{BreaksFiles}
 use Rattle.just_loader.specs.Reached.{World, world_of}
 use Rattle.just_loader.proofs.HeldKeys.{root_held}
-use Rattle.just_overrides.specs.Applied.{Tells}
+use Rattle.just_overrides.specs.Applied.{TellsUnknown}
 use Rattle.just_overrides.specs.Reached.{unknown}
 use Rattle.just_compiler.specs.Analyzed.{IsAnalyzed}
-use Rattle.just_module_tree.specs.Groups.{NamesModules}
+use Rattle.just_module_tree.specs.Groups.{BreaksModules}
 use Rattle.just_module_tree.specs.Standing.{told_in}
 use Rattle.just_module_tree.specs.Modules.{heading, label}
 use Rattle.just_module_headers.specs.Reading.{reading_of}
@@ -30,7 +30,7 @@ returns-in_err-path g c =
 pub returns-in_err-asts : goal.returns-in_err-asts
 returns-in_err-asts g c =
     let w : World = world_of c.args.sources.now c.args.config.now (g.S.Syntax.answers c.args.syntax.now) c.args.root.now in
-    refused (g.E.ConstantEvaluation.answers c.args.evaluation.now) c.args.config.now.overrides w c.from_residual-in_err-asts.result (search rules) (lifted (NamesInFiles w) (MayTell (g.E.ConstantEvaluation.answers c.args.evaluation.now) c.args.config.now.overrides w) (λ _ n. in_files n) c.from_residual-in_err-asts.result (let here : Reports (NamesInFiles w) c.in_err-asts.field-0.0 = c.in_err-asts.ensures.named in search (rules, here)))
+    refused (g.E.ConstantEvaluation.answers c.args.evaluation.now) c.args.config.now.overrides w c.from_residual-in_err-asts.result (search rules) (lifted (BreaksFiles w) (MayTell (g.E.ConstantEvaluation.answers c.args.evaluation.now) c.args.config.now.overrides w) (λ _ n. in_files n) c.from_residual-in_err-asts.result (let here : Reports (BreaksFiles w) c.in_err-asts.field-0.0 = c.in_err-asts.ensures.named in search (rules, here)))
 
 pub returns-in_err-loaded : goal.returns-in_err-loaded
 returns-in_err-loaded g c =
@@ -61,8 +61,8 @@ returns-in_err-justfile g c =
     let asts = get same_ast_key c.in_ok-asts.field-0.asts in
     let reading = reading_of w.answers.enabled asts in
     let top : c.root-module_path.result ≡ record { components = []; spaced = false } = λ j. record { components = c.root-module_path.ensures.components j; spaced = c.root-module_path.ensures.spaced j } in
-    refused (g.E.ConstantEvaluation.answers c.args.evaluation.now) c.args.config.now.overrides w c.from_residual-in_err-justfile.result (search rules) (lifted (NamesModules told_in (given_in (g.E.ConstantEvaluation.answers c.args.evaluation.now) c.args.config.now.overrides w) reading (heading (c.root-module_path.result, c.args.root.now) (label None None [] false))) (MayTell (g.E.ConstantEvaluation.answers c.args.evaluation.now) c.args.config.now.overrides w)
-    (λ x n. in_modules reading c.in_ok-asts.ensures.kept (is_reading w asts c.in_ok-asts.field-0.loaded c.in_ok-asts.ensures.loaded) (subst (λ m. NamesModules told_in (given_in (g.E.ConstantEvaluation.answers c.args.evaluation.now) c.args.config.now.overrides w) reading (heading (m, w.root) (label None None [] false)) x) top n))
+    refused (g.E.ConstantEvaluation.answers c.args.evaluation.now) c.args.config.now.overrides w c.from_residual-in_err-justfile.result (search rules) (lifted (BreaksModules told_in (given_in (g.E.ConstantEvaluation.answers c.args.evaluation.now) c.args.config.now.overrides w) reading (heading (c.root-module_path.result, c.args.root.now) (label None None [] false))) (MayTell (g.E.ConstantEvaluation.answers c.args.evaluation.now) c.args.config.now.overrides w)
+    (λ x n. in_modules reading c.in_ok-asts.ensures.kept (is_reading w asts c.in_ok-asts.field-0.loaded c.in_ok-asts.ensures.loaded) (subst (λ m. BreaksModules told_in (given_in (g.E.ConstantEvaluation.answers c.args.evaluation.now) c.args.config.now.overrides w) reading (heading (m, w.root) (label None None [] false)) x) top n))
     c.from_residual-in_err-justfile.result (search rules))
 
 pub apply_overrides-requires : goal.apply_overrides-requires
@@ -79,7 +79,7 @@ returns-in_err-apply_overrides g c =
     let analyzed : IsAnalyzed (given_in (g.E.ConstantEvaluation.answers c.args.evaluation.now) c.args.config.now.overrides w) asts loaded (root_heading w) c.in_ok-justfile.justfile c.in_ok-justfile.recipes made.overridden =
     subst (λ l. IsAnalyzed (given_in (g.E.ConstantEvaluation.answers c.args.evaluation.now) c.args.config.now.overrides w) asts l (root_heading w) c.in_ok-justfile.justfile c.in_ok-justfile.recipes made.overridden) shared
     (subst (λ m. IsAnalyzed (given_in (g.E.ConstantEvaluation.answers c.args.evaluation.now) c.args.config.now.overrides w) asts c.in_ok-loaded.loaded (heading (m, w.root) (label None None [] false)) c.in_ok-justfile.justfile c.in_ok-justfile.recipes made.overridden) top made.analyzed) in
-    let tells = Tells (unknown c.in_ok-justfile.justfile c.args.config.now.overrides.entries) in
+    let tells = TellsUnknown (unknown c.in_ok-justfile.justfile c.args.config.now.overrides.entries) in
     let named : Reports tells c.in_err-apply_overrides.field-0.0 = c.in_err-apply_overrides.ensures.named in
     refused (g.E.ConstantEvaluation.answers c.args.evaluation.now) c.args.config.now.overrides w c.from_residual-in_err-apply_overrides.result
     (search (rules, c.from_residual-in_err-apply_overrides.ensures.1, c.from_residual-in_err-apply_overrides.ensures.0))

@@ -4,9 +4,9 @@ use Rattle.std.proofs.lemmas.List.{length-map}
 use Rattle.just_parts.specs.Evaluator.{count_fault_of}
 use Rattle.just_names.specs.Texts.{texts}
 use Rattle.just_justfile.specs.Closed.{is_ordered}
-use Rattle.just_run_layers.specs.Steps.{kept_by}
+use Rattle.just_run_layers.specs.Interactions.{log_of}
 use Rattle.just_scopes.specs.Opening.{front_of}
-use Rattle.just_invoke.specs.Going.{TasksComeTo}
+use Rattle.just_invoke.specs.Results.{RunEndsAs}
 use Rattle.just_invoke.specs.Outcome.{tops, tops_of}
 use Rattle.just_invoke.specs.declared.invocation.Invocation.{Invocation}
 use Rattle.just_invoke.specs.Split.{invoked_of}
@@ -53,12 +53,12 @@ returns-clause-outcome g c =
     let recipes = c.args.recipes.now in
     let items = c.in_ok-invocations.invocations.items in
     let invoked = map invoked_of items in
-    let old = kept_by (g.H.Host.entries c.args.host.now) (g.E.Evaluation.requests c.args.evaluation.now) in
-    let new = kept_by (g.H.Host.entries c.run_invocations.new.host) (g.E.Evaluation.requests c.run_invocations.new.evaluation) in
+    let old = log_of (g.H.Host.entries c.args.host.now) (g.E.Evaluation.requests c.args.evaluation.now) in
+    let new = log_of (g.H.Host.entries c.run_invocations.new.host) (g.E.Evaluation.requests c.run_invocations.new.evaluation) in
     let count : length c.as_slice.result.now ≡ length invoked = ap length c.as_slice.ensures.value ∙ sym (length-map items invoked_of) in
     let few : c.args.config.now.one ≡ true → length invoked ≤ 1 = λ one. subst (λ n. n ≤ 1) count (c.in_ok-allow_few.ensures.few one) in
-    let goes : TasksComeTo promised answers front root recipes (tops recipes invoked) old new c.run_invocations.result =
-    subst (λ (is : List Invocation). TasksComeTo promised answers front root recipes (tops_of recipes is) old new c.run_invocations.result) c.as_slice-2.ensures.value c.run_invocations.ensures.comes in
+    let goes : RunEndsAs promised answers front root recipes (tops recipes invoked) old new c.run_invocations.result =
+    subst (λ (is : List Invocation). RunEndsAs promised answers front root recipes (tops_of recipes is) old new c.run_invocations.result) c.as_slice-2.ensures.value c.run_invocations.ensures.comes in
     went counts root recipes (texts c.args.words.now) c.args.config.now front promised answers invoked c.in_ok-invocations.ensures.split few old new c.run_invocations.result goes
 
 pub returns-clause-expected : goal.returns-clause-expected
@@ -71,10 +71,10 @@ returns-clause-expected g c =
     let recipes = c.args.recipes.now in
     let items = c.in_ok-invocations.invocations.items in
     let invoked = map invoked_of items in
-    let old = kept_by (g.H.Host.entries c.args.host.now) (g.E.Evaluation.requests c.args.evaluation.now) in
-    let new = kept_by (g.H.Host.entries c.run_invocations.new.host) (g.E.Evaluation.requests c.run_invocations.new.evaluation) in
+    let old = log_of (g.H.Host.entries c.args.host.now) (g.E.Evaluation.requests c.args.evaluation.now) in
+    let new = log_of (g.H.Host.entries c.run_invocations.new.host) (g.E.Evaluation.requests c.run_invocations.new.evaluation) in
     let count : length c.as_slice.result.now ≡ length invoked = ap length c.as_slice.ensures.value ∙ sym (length-map items invoked_of) in
     let few : c.args.config.now.one ≡ true → length invoked ≤ 1 = λ one. subst (λ n. n ≤ 1) count (c.in_ok-allow_few.ensures.few one) in
-    let goes : TasksComeTo promised answers front root recipes (tops recipes invoked) old new c.run_invocations.result =
-    subst (λ (is : List Invocation). TasksComeTo promised answers front root recipes (tops_of recipes is) old new c.run_invocations.result) c.as_slice-2.ensures.value c.run_invocations.ensures.comes in
+    let goes : RunEndsAs promised answers front root recipes (tops recipes invoked) old new c.run_invocations.result =
+    subst (λ (is : List Invocation). RunEndsAs promised answers front root recipes (tops_of recipes is) old new c.run_invocations.result) c.as_slice-2.ensures.value c.run_invocations.ensures.comes in
     went-expected counts root recipes (texts c.args.words.now) c.args.config.now front promised answers invoked c.in_ok-invocations.ensures.split few old new c.run_invocations.result goes

@@ -18,20 +18,20 @@ use Rattle.just_module_recipes.specs.Links.{BreaksLinks, Disables, Stands, aroun
 use Rattle.just_names.specs.Index.{AreDifferent}
 use Rattle.just_recipe.specs.declared.dependency.UnresolvedDependency.{UnresolvedDependency}
 use Rattle.just_recipe.specs.declared.recipe.Recipe.{Recipe}
-use Rattle.just_recipe_resolver.specs.Basis.{AreCovered, Basis, IsCovered, basis_by, basis_of}
+use Rattle.just_recipe_resolver.specs.Basis.{AreRecipesCovered, Basis, IsRecipeCovered, basis_by, basis_of}
 use Rattle.just_recipe_resolver.proofs.Along.{Added, OwnKept, Told, along}
 use Rattle.just_recipe_resolver.proofs.recipe_resolver.RecipeResolver.resolve_recipes.Goals as goal
 
 -- what covers recipes covers those that are kept
-covers_kept : (basis other : Basis) → other ≡ basis → (all kept : List (Recipe UnresolvedDependency)) → kept ≡ kept_recipes all → AreCovered basis all → AreCovered other kept
+covers_kept : (basis other : Basis) → other ≡ basis → (all kept : List (Recipe UnresolvedDependency)) → kept ≡ kept_recipes all → AreRecipesCovered basis all → AreRecipesCovered other kept
 covers_kept basis other same all kept is covered i h =
     let r = recipe_at kept i in
     let there : In r all = kept_in all r (subst (In r) is (is_in r kept (Contains-get_or kept i no_recipe h))) in
     let c = contained r all there in
-    subst (λ (b : Basis). IsCovered b r) (sym same) (covers_one all r c covered)
+    subst (λ (b : Basis). IsRecipeCovered b r) (sym same) (covers_one all r c covered)
   where
-    covers_one : (all : List (Recipe UnresolvedDependency)) (r : Recipe UnresolvedDependency) → Contains all r → AreCovered basis all → IsCovered basis r
-    covers_one all r c covered = subst (IsCovered basis) (get_or_default all c.0 no_recipe r c.1 ∙ c.2) (covered c.0 c.1)
+    covers_one : (all : List (Recipe UnresolvedDependency)) (r : Recipe UnresolvedDependency) → Contains all r → AreRecipesCovered basis all → IsRecipeCovered basis r
+    covers_one all r c covered = subst (IsRecipeCovered basis) (get_or_default all c.0 no_recipe r c.1 ∙ c.2) (covered c.0 c.1)
 
 pub resolve_kept-requires-clause-different : goal.resolve_kept-requires-clause-different
 resolve_kept-requires-clause-different g c = subst (λ (rs : List (Recipe UnresolvedDependency)). AreDifferent (names_of rs)) (sym c.in_ok-kept.ensures) (kept_different (recipes_in c.in_ok-definitions.definitions))

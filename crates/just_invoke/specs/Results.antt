@@ -1,0 +1,40 @@
+-- For the private functions: what the run of tasks comes to.
+use Rattle.std.specs.Prelude.{◌≡◌, ◌⊎◌, List, Option, Result, Err}
+use Rattle.just_errors.specs.Halts.{come_to, error_of}
+use Rattle.just_errors.specs.declared.error.Error.{Error}
+use Rattle.just_errors.specs.declared.error.Error.TheVariants.{Memory}
+use Rattle.just_errors.specs.declared.halt.Halt.{Halt}
+use Rattle.just_errors.specs.declared.halt.Halt.TheVariants as halt
+use Rattle.just_execution.specs.Reports.{TasksRunAsExpected, IsRun, HasRunTrace}
+use Rattle.just_execution.specs.Scene.{Scene, running}
+use Rattle.just_execution.specs.declared.run.Report.{Report}
+use Rattle.just_execution.specs.declared.task.Task.{Task}
+use Rattle.just_justfile.specs.declared.justfile.Justfile.{Justfile}
+use Rattle.just_recipe.specs.declared.dependency.Dependency.{Dependency}
+use Rattle.just_recipe.specs.declared.recipe.Recipe.{Recipe}
+use Rattle.just_run_layers.specs.Evaluation.{Inquiry}
+use Rattle.just_run_layers.specs.Host.{Answer}
+use Rattle.just_run_layers.specs.Interactions.{Log, executed_in}
+use Rattle.just_run_layers.specs.declared.host.Entry.{Entry}
+use Rattle.just_scopes.specs.Open.{Opens}
+use Rattle.just_scopes.specs.Opening.{Front, Opened, scene_of}
+use Rattle.just_invoke.specs.Whole.{HasOpened}
+
+-- a run in a scene: its steps were taken, and it is as is expected
+pub record RunsInScene (evaluator : Inquiry → Option Answer) (host : Entry → Option Answer) (scene : Scene) (ts : List Task) (old new : Log) (ended : Result Report Halt) : Type 0 where
+  pub taken : HasRunTrace evaluator host scene ts old new ended
+  pub expected : TasksRunAsExpected evaluator host scene ts old new ended
+
+-- in open modules tasks are not run for want of memory, and what is kept is as it was; or they are
+abbrev pub RunsOpen : (Inquiry → Option Answer) → (Entry → Option Answer) → Front → List (Recipe Dependency) → List Opened → List Task → Log → Log → Result Report Halt → Type 0
+RunsOpen evaluator host front recipes opened ts old new ended =
+    ((ended ≡ Err halt.Memory) × (new ≡ old))
+    ⊎ (IsRun (running front.handed.config.no_dependencies recipes) ts old new ended × RunsInScene evaluator host (scene_of front recipes opened) ts old new ended)
+
+-- tasks are not run for want of memory, and what is kept is as it was; the modules do not open; or they do, and the tasks are run in them
+pub data RunEndsAs (evaluator : Inquiry → Option Answer) (host : Entry → Option Answer) (front : Front) (root : Justfile) (recipes : List (Recipe Dependency)) (ts : List Task) (old new : Log) (result : Result Report Error) : Type 0 where
+  out : result ≡ Err Memory → new ≡ old → RunEndsAs evaluator host front root recipes ts old new result
+  shut : (e : Halt) → result ≡ Err (error_of e) → Opens evaluator host front root recipes ts old new (Err e) → executed_in new ≡ executed_in old →
+      RunEndsAs evaluator host front root recipes ts old new result
+  ran : (opened : List Opened) (mid : Log) (ended : Result Report Halt) → result ≡ come_to ended → HasOpened evaluator host front root recipes ts old mid opened →
+      IsRun (running front.handed.config.no_dependencies recipes) ts mid new ended → RunsInScene evaluator host (scene_of front recipes opened) ts mid new ended → RunEndsAs evaluator host front root recipes ts old new result

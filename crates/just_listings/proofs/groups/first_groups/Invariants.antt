@@ -1,0 +1,14 @@
+use Rattle.std.proofs.Common.{◌≡◌, map, take}
+use Rattle.std.specs.HashSet.{contains}
+use Rattle.std.specs.List.{list_any}
+use Rattle.std.specs.Str.{bytes_eq}
+use Rattle.just_names.specs.Texts.{Text}
+use Rattle.just_listings.specs.Groups.{firsts}
+use Rattle.just_listings.specs.Order.{item_of}
+use Rattle.just_listings.proofs.groups.first_groups.Given as goal
+
+abbrev pub invariant-loop-group : goal.invariant-loop-group
+invariant-loop-group l = record {
+  first : l.texts.items ≡ firsts (map item_of (take l.group-index l.groups));
+  met : (text : Text) → contains bytes_eq l.seen text ≡ list_any (bytes_eq text) (map item_of (take l.group-index l.groups));
+}

@@ -1,0 +1,81 @@
+//! What listings show of a module and of the public modules below it.
+ghost use Rattle.std.specs.Prelude.{◌≡◌, ◌++◌, map, IfOk, OnOk};
+ghost use Rattle.std.specs.List.{list_any};
+ghost use Rattle.just_recipe_run.specs.Calls.{says_private};
+ghost use Rattle.just_listings.specs.Below.{ArePublicAliasesBelow, ArePublicRecipesBelow};
+ghost use Rattle.just_listings.specs.Order.{behind};
+ghost use Rattle.just_listings.specs.Public.{alias_behind, aliases_shown, is_public_alias};
+
+use crate::recipes::public_recipes;
+use crate::walk::{preorder, public_choice};
+use just_justfile::{Justfile, RecipeAlias};
+use just_parts::Recipe;
+use just_parts::layers::{Attribute, NamedAttribute};
+use just_paths::Modulepath;
+use just_recipes::Recipes;
+use std::alloc::{AllocError, Global};
+
+/// The public recipes of a module and of the public modules below it, those of a module before those of the modules in it.
+pub(crate) fn public_recipes_below<'run, 'src>(
+    alloc: Global,
+    unsorted: bool,
+    recipes: &'run Recipes<'src>,
+    root: &Justfile<'src>,
+) -> Result<Vec<&'run Recipe<'src>>, AllocError>
+    ensures { IfOk result (λ found. ArePublicRecipesBelow unsorted recipes.now root.now (behind found.items)) }
+{
+    let modules = preorder(alloc, public_choice(unsorted), root)?;
+    let mut found = Vec::new(alloc);
+    for at in 0..modules.len() {
+        let mut own = public_recipes(alloc, unsorted, recipes, &*modules[at])?;
+        found.append(&mut own)?;
+    }
+    Ok(found)
+}
+
+// Whether an attribute says that a listing leaves it out.
+fn has_private(attributes: &[NamedAttribute]) -> bool
+    ensures { result ≡ list_any says_private attributes.now }
+{
+    attributes
+        .iter()
+        .any(|named| matches!(named.attribute, Attribute::Private))
+}
+
+// Whether an alias is private neither by its name nor by an attribute.
+fn is_public_alias<'src>(alias: &RecipeAlias<'src>) -> bool
+    ensures { result ≡ is_public_alias alias.now }
+{
+    !alias.name.lexeme().starts_with('_') && !has_private(alias.attributes.as_slice())
+}
+
+// Adds the public aliases of the recipes of a module, each with the path of the module.
+fn add_aliases<'run, 'src>(
+    found: &mut Vec<(&'run RecipeAlias<'src>, &'run Modulepath)>,
+    module: &'run Justfile<'src>,
+) -> Result<(), AllocError>
+    ensures { OnOk result (map alias_behind found.new.items ≡ map alias_behind found.old.items ++ aliases_shown module.now) }
+{
+    for alias in module.aliases.recipes.values() {
+        if is_public_alias(alias) {
+            found.push((alias, &module.module_path))?;
+        }
+    }
+    Ok(())
+}
+
+/// The public aliases of recipes of a module and of the public modules below it, each with the path of its module.
+pub(crate) fn public_aliases_below<'run, 'src>(
+    alloc: Global,
+    unsorted: bool,
+    root: &'run Justfile<'src>,
+) -> Result<Vec<(&'run RecipeAlias<'src>, &'run Modulepath)>, AllocError>
+    ensures { IfOk result (λ found. ArePublicAliasesBelow unsorted root.now (map alias_behind found.items)) }
+{
+    let modules = preorder(alloc, public_choice(unsorted), root)?;
+    let mut found = Vec::new(alloc);
+    for at in 0..modules.len() {
+        add_aliases(&mut found, modules[at])?;
+    }
+    Ok(found)
+}
