@@ -5,6 +5,8 @@
                                            in crates/, crates.txt or benches/: one line FILE:LINE: WORD each, status 1
     python3 benches/words.py --doubled     words that more than one file of specs/ defines, each with its files
 
+The first also says whether the program that README.md shows is the crate `caller`.
+
 Of what stands in backticks only identifiers in the form of code are looked for: with an underscore, with a capital before
 small letters, or a part of a path (`Compiler::compile`). What is not built yet is left out: a line that has a dagger or says
 `comes with`, with the list below it, and what stands under such a heading or in such a column; so is a column that is headed
@@ -98,6 +100,13 @@ def doubled():
     return {word: sorted(at) for word, at in sorted(files.items()) if len(at) > 1}, len(files)
 
 
+def caller():
+    """What is told where the program that README.md shows is not the crate `caller`."""
+    shown = re.search("```rust\n(.*?)```", (TOP / "README.md").read_text(), re.DOTALL)
+    is_same = shown and shown[1] == (TOP / "crates" / "caller" / "src" / "main.rt").read_text()
+    return [] if is_same else ["README.md: its program is not crates/caller/src/main.rt"]
+
+
 def main(arguments):
     if arguments == ["--doubled"]:
         twice, count = doubled()
@@ -105,7 +114,7 @@ def main(arguments):
             print(f"{word}: {', '.join(files)}")
         print(f"{len(twice)} of {count} words")
         return 0
-    found = missing()
+    found = missing() + caller()
     for line in found:
         print(line)
     return 1 if found else 0

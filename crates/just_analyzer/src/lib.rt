@@ -102,11 +102,19 @@ pub mod justfile {
     pub use just_justfile::{Justfile, RecipeKey};
 }
 
+/// What is evaluated where no recipe runs, by a path; and the text of its values.
+pub mod evaluation {
+    pub use just_evaluate::{
+        EvaluationTarget, EvaluationTargets, evaluated_text, target_numbers, write_all,
+    };
+}
+
 /// What listings show of a compiled module, and how recipes are called and aliases written.
 pub mod listing {
     pub use just_ast_definitions::ShownAlias;
     pub use just_listings::{
-        AliasListing, GroupListing, Listing, ModuleListing, RecursiveListing, Stability,
+        AliasListing, GroupListing, Listing, ModuleListing, RecipeListing, RecursiveListing,
+        ShownJustfile, SpacedPath, Stability, shown,
     };
     pub use just_recipe::RecipeSignature;
 }
@@ -121,11 +129,12 @@ pub use compilation::Compilation;
 pub use compiler::Compiler;
 pub use data::{BorrowedText, Sequence, Shared, Text};
 pub use dependency::Dependency;
+pub use evaluation::{EvaluationTarget, EvaluationTargets};
 pub use invocation_parser::{Invocation, InvocationParser};
 pub use justfile::{Justfile, RecipeKey, Report, Run};
 pub use listing::{
-    AliasListing, GroupListing, Listing, ModuleListing, RecipeSignature, RecursiveListing,
-    ShownAlias, Stability,
+    AliasListing, GroupListing, Listing, ModuleListing, RecipeListing, RecipeSignature,
+    RecursiveListing, ShownAlias, ShownJustfile, SpacedPath, Stability, shown,
 };
 pub use modulepath::Modulepath;
 pub use recipe::{Recipe, Recipes, RunRecipe};

@@ -14,6 +14,7 @@ use Rattle.just_recipe.specs.declared.recipe.Recipe.{Recipe}
 use Rattle.just_run_layers.specs.declared.host.Entry.{Entry}
 use Rattle.just_run_layers.specs.Evaluation.{ScopeRequest}
 use Rattle.just_run_layers.specs.Interactions.{log_of}
+use Rattle.just_invoke.specs.Evaluation.{RunsRecipes}
 use Rattle.just_invoke.specs.Outcome.{IsOutcome}
 use Rattle.just_scopes.specs.Opening.{Front, front_of}
 use Rattle.just_invoke.specs.Split.{Counts}
@@ -35,10 +36,10 @@ abbrev pub plain_counts : Counts
 plain_counts = count_fault_of evaluator
 
 -- Words are run over a root by a plain evaluation that was asked nothing, which promises its answers, and a recorder, which promises what it does
--- by its script: the recorder kept these calls, and keeps those; the evaluation keeps these questions for variables.
+-- by its script: where the configuration asks that recipes run, the recorder kept these calls, and keeps those; the evaluation keeps these questions for variables.
 abbrev pub IsPlainOutcome : Justfile → List (Recipe Dependency) → Config → Front → List Text → Script → List Entry → List Entry → Result Report Error → Type 0
 IsPlainOutcome root recipes config front words script old new result =
-    (requests : List ScopeRequest) ×
+    RunsRecipes config → (requests : List ScopeRequest) ×
     IsOutcome plain_counts root recipes words config front (λ inquiry. Some (plain_answer inquiry)) (script_promises script) (log_of old []) (log_of new requests) result
 
 -- What a recorder without a script, which was asked nothing, is asked by a run, and what the run comes to.

@@ -78,6 +78,7 @@ refused evaluator overrides w (Err e) none h = record {
   numbers = tt;
   can_run = tt;
   overridden = tt;
+  modules_ordered = tt;
   root = tt;
   root_ast = tt;
   named = h;

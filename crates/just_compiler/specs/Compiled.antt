@@ -7,6 +7,7 @@ use Rattle.just_names.specs.Texts.{Text}
 use Rattle.just_errors.specs.declared.error.Error.{Error}
 use Rattle.just_justfile.specs.Closed.{AreClosed, IsRooted}
 use Rattle.just_justfile.specs.Running.{CanRun, HaveOwnNumbers, HoldsOverridden}
+use Rattle.just_justfile.specs.Walks.{AreModulesOrdered}
 use Rattle.just_justfile.specs.declared.justfile.Justfile.{out-Justfile}
 use Rattle.just_parts.specs.Evaluator.{Evaluator}
 use Rattle.just_parts.specs.Needs.{same_number}
@@ -35,7 +36,7 @@ pub record IsCompilation (evaluator : Evaluator) (overrides : Overrides) (w : Wo
   pub analyzed : IsAnalyzed (given_in evaluator overrides w) (get same_ast_key c.asts) loaded (root_heading w) c.justfile c.recipes overridden
   pub overrides_are : (n : Number) → get same_number c.overrides n ≡ last_of (meant c.justfile overrides.entries) n
 
--- What a compilation answers: no rule is broken, so that none is named, the files are compiled, each recipe that is named is held, each that is held is that of a module that stands in the root, whose path has no names, each variable and function stands under its own name in its module, no two variables of all modules have one number, the root can run with these recipes, each variable that was seen as overridden has a value, and the root's file is held; or a rule that is broken, or a pattern that is past the limits of regular expressions.
+-- What a compilation answers: no rule is broken, so that none is named, the files are compiled, each recipe that is named is held, each that is held is that of a module that stands in the root, whose path has no names, each variable and function stands under its own name in its module, no two variables of all modules have one number, the root can run with these recipes, each variable that was seen as overridden has a value, the names of modules rise, and the root's file is held; or a rule that is broken, or a pattern that is past the limits of regular expressions.
 pub record Compiles (evaluator : Evaluator) (overrides : Overrides) (w : World) (result : Result Compilation Error) : Type 0 where
   pub kept : IfOk result (λ _. KeepsAll evaluator overrides w)
   pub unnamed : IfOk result (λ _. Keeps (BreaksCompilation evaluator overrides w))
@@ -47,6 +48,7 @@ pub record Compiles (evaluator : Evaluator) (overrides : Overrides) (w : World) 
   pub numbers : IfOk result (λ (c : Compilation). HaveOwnNumbers c.justfile)
   pub can_run : IfOk result (λ (c : Compilation). CanRun w.answers c.justfile c.recipes)
   pub overridden : IfOk result (λ (c : Compilation). HoldsOverridden c.justfile c.overrides)
+  pub modules_ordered : IfOk result (λ (c : Compilation). AreModulesOrdered c.justfile)
   pub root : IfOk result (λ (c : Compilation). c.root ≡ w.root)
   pub root_ast : IfOk result (λ (c : Compilation). IsSome (get same_ast_key c.asts (root_ast_key c.root)))
   pub named : IfErr result (Reports (MayTell evaluator overrides w))

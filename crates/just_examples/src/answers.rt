@@ -9,10 +9,10 @@ use just_analyzer::layers::{Config, Error, Syntax};
 use just_analyzer::{Compilation, Compiler, Sources, is_clean};
 use just_bench::{PlainEvaluation, PlainSyntax, read_sources};
 use just_examples_answers::compiled::add_compiled;
+use just_examples_answers::evaluated::add_values;
 use just_examples_answers::held::{add_justfile, add_recipes};
-use just_examples_answers::listed::add_listed;
+use just_examples_answers::listed::add_listing;
 use just_examples_answers::requests::add_requests;
-use just_examples_answers::shown::add_shown;
 use just_examples_answers::variables::add_variable;
 use just_examples_answers::walks::add_walk;
 use just_examples_answers::{add_items, answer_text, read_pairs};
@@ -65,7 +65,7 @@ fn add_evaluated(
     add_requests(evaluation.asked(), text)
 }
 
-// Adds what is asked of a compilation: what it has and what words do, what a variable of the root's module refers to and which
+// Adds what is asked of a compilation: what it has and what words do, which values are written, what a variable of the root's module refers to and which
 // variables it needs, or what a call gives.
 fn add_compilation<'pairs>(
     text: &mut String,
@@ -98,8 +98,10 @@ fn add_compilation<'pairs>(
             asked,
             text,
         ),
-        "list" => add_listed(justfile, recipes, alloc, word, text),
-        "show" => add_shown(justfile, recipes, alloc, word, text),
+        "evaluate" => add_values(justfile, recipes, overrides, alloc, syntax, asked, text),
+        "dump" | "groups" | "list" | "show" | "tell" => {
+            add_listing(justfile, recipes, alloc, kind, word, text)
+        }
         "variable" => add_variable(alloc, justfile, word, text),
         "Compilation::root_ast" => add_items(text, compilation.root_ast().items.as_slice()),
         "Justfile::name" | "Justfile::is_submodule" => add_justfile(justfile, kind, text),
@@ -147,7 +149,10 @@ fn answer_compiled(
     line: &str,
 ) -> Result<String, AllocError> {
     let mut answer = String::new(alloc);
-    let asked = read_asked(alloc, line)?;
+    let mut asked = read_asked(alloc, line)?;
+    if kind == "evaluate" {
+        asked.ask_for_values(alloc)?;
+    }
     match read_sources(alloc, bundle) {
         Ok(sources) => add_sources(&mut answer, alloc, &sources, kind, &asked)?,
         Err(error) => writeln!(answer, "error Bundle: {error}")?,
@@ -159,11 +164,10 @@ fn answer_compiled(
 pub fn answer(alloc: Global, bundle: &str, question: &str) -> Result<Option<String>, AllocError> {
     let (kind, rest) = question.split_once(' ').unwrap_or((question, ""));
     match kind {
-        "just"
-        | "list"
-        | "show"
-        | "variable"
-        | "Compilation::root_ast"
+        "just" | "dump" | "evaluate" | "groups" | "list" | "show" | "tell" | "variable" => {
+            Ok(Some(answer_compiled(alloc, bundle, kind, rest)?))
+        }
+        "Compilation::root_ast"
         | "Evaluation::assignments"
         | "Evaluation::display"
         | "Evaluation::environment"

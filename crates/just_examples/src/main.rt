@@ -10,12 +10,21 @@ use anyhow::{Context, Result, ensure};
 use just_examples_format::cases::name_of;
 use std::{env, fs};
 
-// Runs the cases of a file, and answers how many of them differ. What stands before the first is a comment.
+// The cases of a file, and how much stands before the first: nothing, or a comment.
+fn cases_of(text: &str) -> (&str, usize) {
+    match text.strip_prefix("=== ") {
+        Some(cases) => (cases, 0),
+        None => (text, 1),
+    }
+}
+
+// Runs the cases of a file, and answers how many of them differ.
 fn run_file(rt: &HostRuntime, path: &str) -> Result<usize> {
     let alloc = rt.alloc();
     let text = fs::read_to_string(rt, path).context(format_args!("reading {path}"))?;
     let mut differing = 0usize;
-    for case in text.split("\n=== ").skip(1) {
+    let (cases, comments) = cases_of(text.as_str());
+    for case in cases.split("\n=== ").skip(comments) {
         let name = name_of(case);
         let found = differences(alloc, case)?;
         if found.is_empty() {

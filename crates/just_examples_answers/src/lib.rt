@@ -7,6 +7,7 @@ mod bundles;
 pub mod compiled;
 mod copies;
 mod entries;
+pub mod evaluated;
 pub mod held;
 mod items;
 pub mod listed;
@@ -14,7 +15,7 @@ mod readings;
 mod recorders;
 pub mod requests;
 mod runs;
-pub mod shown;
+mod shown;
 pub mod variables;
 pub mod walks;
 

@@ -15,16 +15,18 @@ fn fault_of(alloc: Global, message: &str) -> Result<Fault, AllocError> {
     Ok(Fault { message })
 }
 
-// One pair, of a name and a text with `=` between the two, or none where nothing is written.
+// Pairs with commas between them, each of a name and a text with `=` between the two; none where nothing is written.
 fn pairs_of(alloc: Global, written: &str) -> Result<Sequence<EnvironmentPair>, AllocError> {
     let mut pairs = Sequence::new(alloc);
     if written.is_empty() {
         return Ok(pairs);
     }
-    let (name, value) = written.split_once('=').unwrap_or((written, ""));
-    let name = Text::from_str(alloc, name)?;
-    let value = Text::from_str(alloc, value)?;
-    pairs.push(EnvironmentPair { name, value })?;
+    for pair in written.split(',') {
+        let (name, value) = pair.split_once('=').unwrap_or((pair, ""));
+        let name = Text::from_str(alloc, name)?;
+        let value = Text::from_str(alloc, value)?;
+        pairs.push(EnvironmentPair { name, value })?;
+    }
     Ok(pairs)
 }
 
@@ -43,7 +45,7 @@ fn put_run(alloc: Global, script: &mut Script, kind: &str, rest: &str) -> Result
 }
 
 // Puts an answer, or a fault, behind those of its kind: `code=N`, `interrupted=N`, `killed=N`, `missing=TEXT`, `line=TEXT`,
-// `pair=NAME=TEXT`, `pair=`, `time=TEXT`, `no-line=TEXT`, `no-pairs=TEXT`, `no-time=TEXT`.
+// `pair=NAME=TEXT,NAME=TEXT`, `pair=`, `time=TEXT`, `no-line=TEXT`, `no-pairs=TEXT`, `no-time=TEXT`.
 fn put(alloc: Global, script: &mut Script, word: &str) -> Result<(), AllocError> {
     let (kind, rest) = word.split_once('=').unwrap_or((word, ""));
     match kind {

@@ -7,6 +7,7 @@ use crate::recorders::scripted;
 use crate::requests::add_bound;
 use just_bench::laws::layers_agree_on_lines;
 use just_bench::{PlainEvaluation, PlainSyntax, Recorder, StopWriter};
+use just_bench_failing::FailingEvaluation;
 use just_data::Text;
 use just_examples_format::asked::Asked;
 use just_examples_format::faults::add_fault;
@@ -62,41 +63,41 @@ fn add_calls(text: &mut String, calls: &[u64]) -> Result<(), AllocError> {
     text.push('\n')
 }
 
-// A host that answers as it is asked to, and is refused memory at a call where one is given.
-fn host_of(alloc: Global, asked: &Asked) -> Result<Recorder, AllocError> {
+/// A host that answers as it is asked to, and is refused memory at a call where one is given.
+pub(crate) fn host_of(alloc: Global, asked: &Asked) -> Result<Recorder, AllocError> {
     match asked.memory_at {
         Some(call) => Ok(Recorder::memory_at(alloc, call)),
         None => scripted(alloc, asked.answers.as_str()),
     }
 }
 
-// Runs words over a compiled module under a grammar.
-fn run_under<'src, 'pairs>(
+/// An evaluation that fails at the question that it is asked to.
+pub(crate) fn evaluation_of(
+    alloc: Global,
+    asked: &Asked,
+) -> Result<FailingEvaluation<PlainEvaluation>, AllocError> {
+    FailingEvaluation::failing_at(alloc, PlainEvaluation::new(alloc), asked.failing_at)
+}
+
+/// Runs words over a compiled module under a grammar, or does what else the configuration asks.
+pub(crate) fn run_under<'src, 'pairs>(
     root: &Justfile<'src>,
     recipes: &Recipes<'src>,
     overrides: &HashMap<Number, Text>,
     alloc: Global,
     syntax: &PlainSyntax<'pairs>,
-    evaluation: &mut PlainEvaluation,
+    evaluation: &mut FailingEvaluation<PlainEvaluation>,
     host: &mut Recorder,
+    writer: &mut StopWriter,
     config: &Config,
     words: &[&str],
 ) -> Result<Report, Error<'src>>
     requires can_run { CanRun (⟦<PlainSyntax<'pairs> as Syntax>⟧.answers syntax.now) root.now recipes.now }
     requires overridden { HoldsOverridden root.now overrides.now }
 {
-    let mut writer = StopWriter::new(alloc, 0)?;
     layers_agree_on_lines(syntax);
     root.run(
-        alloc,
-        config,
-        recipes,
-        syntax,
-        evaluation,
-        host,
-        &mut writer,
-        words,
-        overrides,
+        alloc, config, recipes, syntax, evaluation, host, writer, words, overrides,
     )
 }
 
@@ -107,7 +108,7 @@ fn add_ended<'src, 'pairs>(
     overrides: &HashMap<Number, Text>,
     alloc: Global,
     syntax: &PlainSyntax<'pairs>,
-    evaluation: &mut PlainEvaluation,
+    evaluation: &mut FailingEvaluation<PlainEvaluation>,
     host: &mut Recorder,
     config: &Config,
     words: &[&str],
@@ -116,8 +117,18 @@ fn add_ended<'src, 'pairs>(
     requires can_run { CanRun (⟦<PlainSyntax<'pairs> as Syntax>⟧.answers syntax.now) root.now recipes.now }
     requires overridden { HoldsOverridden root.now overrides.now }
 {
+    let mut writer = StopWriter::new(alloc, 0)?;
     match run_under(
-        root, recipes, overrides, alloc, syntax, evaluation, host, config, words,
+        root,
+        recipes,
+        overrides,
+        alloc,
+        syntax,
+        evaluation,
+        host,
+        &mut writer,
+        config,
+        words,
     ) {
         Ok(report) => add_calls(text, report.calls.as_slice()),
         Err(error) => add_fault(text, &error),
@@ -139,7 +150,7 @@ pub fn add_run<'src, 'pairs>(
     requires overridden { HoldsOverridden root.now overrides.now }
 {
     let mut host = host_of(alloc, asked)?;
-    let mut evaluation = PlainEvaluation::new(alloc);
+    let mut evaluation = evaluation_of(alloc, asked)?;
     add_ended(
         root,
         recipes,
@@ -152,7 +163,7 @@ pub fn add_run<'src, 'pairs>(
         words,
         text,
     )?;
-    add_bound(evaluation.asked(), text)?;
+    add_bound(evaluation.evaluation().asked(), text)?;
     add_executed(text, host.entries())?;
     add_entries(text, host.entries())
 }

@@ -1,7 +1,7 @@
-//! What a line `$ just` asks.
+//! What a line `$ just` asks, and a line `$ evaluate`.
 use crate::written::unmarked;
 use just_data::Text;
-use just_parts::layers::{Config, Verbosity};
+use just_parts::layers::{Config, EvaluateFormat, Subcommand, Verbosity};
 use just_paths::Modulepath;
 use std::alloc::{AllocError, Global};
 
@@ -15,7 +15,9 @@ enum Part {
     Conflicts,
     Override,
     Memory,
+    Failing,
     Answer,
+    Room,
     Word,
 }
 
@@ -41,8 +43,12 @@ pub struct Asked {
     pub conflicts: String,
     /// The call at which the host is refused memory, where there is one. Calls count from 1.
     pub memory_at: Option<usize>,
+    /// The question of a run that the evaluation answers by a fault, or 0. Questions count from 1.
+    pub failing_at: usize,
     /// What the host answers, as `--answer` says, a blank after each.
     pub answers: String,
+    /// How many bytes may be written.
+    pub room: usize,
     words: Vec<String>,
     next: Part,
 }
@@ -55,7 +61,9 @@ impl Asked {
             root: String::from_str(alloc, "/justfile")?,
             conflicts: String::new(alloc),
             memory_at: None,
+            failing_at: 0,
             answers: String::new(alloc),
+            room: 65_536,
             words: Vec::new(alloc),
             next: Part::OptionOrWord,
         })
@@ -74,6 +82,23 @@ impl Asked {
         }
     }
 
+    /// Lets the configuration ask for values: where the first word is `shell`, as a shell takes them; and of the path that the
+    /// last word is, where there is another one.
+    pub fn ask_for_values(&mut self, alloc: Global) -> Result<(), AllocError> {
+        let is_shell = self.first_word() == "shell";
+        let path = match self.words.get(usize::from(is_shell)) {
+            Some(path) => Some(module_path(alloc, path.as_str())?),
+            None => None,
+        };
+        let format = if is_shell {
+            EvaluateFormat::Shell
+        } else {
+            EvaluateFormat::Just
+        };
+        self.config.subcommand = Subcommand::Evaluate { format, path };
+        Ok(())
+    }
+
     // An option or a word. What follows the first word is a word.
     fn take_option(&mut self, alloc: Global, part: &str) -> Result<(), AllocError> {
         match part {
@@ -84,7 +109,9 @@ impl Asked {
             "--conflicts" => self.next = Part::Conflicts,
             "--override" => self.next = Part::Override,
             "--memory" => self.next = Part::Memory,
+            "--failing" => self.next = Part::Failing,
             "--answer" => self.next = Part::Answer,
+            "--room" => self.next = Part::Room,
             "--no-dependencies" => self.config.no_dependencies = true,
             "--load-dotenv" => self.config.load_dotenv = true,
             "--dry-run" => self.config.dry_run = true,
@@ -124,7 +151,9 @@ impl Asked {
             Part::Conflicts => write!(self.conflicts, "{part} ")?,
             Part::Override => self.take_override(alloc, part)?,
             Part::Memory => self.memory_at = part.parse::<usize>().ok(),
+            Part::Failing => self.failing_at = part.parse::<usize>().unwrap_or(0),
             Part::Answer => write!(self.answers, "{part} ")?,
+            Part::Room => self.room = part.parse::<usize>().unwrap_or(0),
             Part::Word => {
                 self.words.push(unmarked(alloc, part)?)?;
                 return Ok(());
@@ -136,8 +165,9 @@ impl Asked {
 }
 
 /// What stands behind `$ just`: the options `--one`, `--home PATH`, `--folder PATH`, `--justfile PATH`, `--conflicts A,B`,
-/// `--override PATH=VALUE`, `--memory CALL`, `--answer ANSWER`, `--no-dependencies`, `--load-dotenv`, `--dry-run`, `--explain`,
-/// `--timestamp`, `--yes`, `--quiet`, `--loquacious` and `--grandiloquent`, then words.
+/// `--override PATH=VALUE`, `--memory CALL`, `--failing QUESTION`, `--answer ANSWER`, `--room COUNT`, `--no-dependencies`,
+/// `--load-dotenv`, `--dry-run`, `--explain`, `--timestamp`, `--yes`, `--quiet`, `--loquacious` and `--grandiloquent`, then
+/// words.
 pub fn read_asked(alloc: Global, line: &str) -> Result<Asked, AllocError> {
     let mut asked = Asked::new(alloc)?;
     for part in line.split_whitespace() {

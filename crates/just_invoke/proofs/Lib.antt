@@ -1,5 +1,6 @@
 pub mod Advancing
 pub mod Decides
+pub mod Evaluations
 pub mod Faults
 pub mod HeadLemmas
 pub mod Holding

@@ -1,8 +1,9 @@
 pub mod Cause
-pub mod Results
+pub mod Evaluation
 pub mod Head
 pub mod Meaning
 pub mod Outcome
+pub mod Results
 pub mod Split
 pub mod Whole
 pub mod Words

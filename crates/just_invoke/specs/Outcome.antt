@@ -49,7 +49,7 @@ pub record IsRunnable (counts : Counts) (root : Justfile) (recipes : List (Recip
   pub split : IsSplit counts root recipes words invoked
   pub few : one ≡ true → length invoked ≤ 1
 
--- The words are refused, and what is kept is as it was; or they may be run, and the modules are opened: they do not open, and nothing is executed; or they do, and then the steps of the run were taken in them.
+-- The words are refused, and the log is as it was; or they may be run, and the modules are opened: they do not open, and nothing is executed; or they do, and then the steps of the run were taken in them.
 pub data IsOutcome (counts : Counts) (root : Justfile) (recipes : List (Recipe Dependency)) (words : List (List ℕ)) (config : Config) (front : Front)
     (evaluator : Inquiry → Option Answer) (host : Entry → Option Answer) (old new : Log) (result : Result Report Error) : Type 0 where
   refused : (e : Error) → result ≡ Err e → IsRunRefusal counts root recipes words config.one e → new ≡ old → IsOutcome counts root recipes words config front evaluator host old new result

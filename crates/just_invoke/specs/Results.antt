@@ -25,13 +25,13 @@ pub record RunsInScene (evaluator : Inquiry → Option Answer) (host : Entry →
   pub taken : HasRunTrace evaluator host scene ts old new ended
   pub expected : TasksRunAsExpected evaluator host scene ts old new ended
 
--- in open modules tasks are not run for want of memory, and what is kept is as it was; or they are
+-- in open modules tasks are not run for want of memory, and the log is as it was; or they are
 abbrev pub RunsOpen : (Inquiry → Option Answer) → (Entry → Option Answer) → Front → List (Recipe Dependency) → List Opened → List Task → Log → Log → Result Report Halt → Type 0
 RunsOpen evaluator host front recipes opened ts old new ended =
     ((ended ≡ Err halt.Memory) × (new ≡ old))
     ⊎ (IsRun (running front.handed.config.no_dependencies recipes) ts old new ended × RunsInScene evaluator host (scene_of front recipes opened) ts old new ended)
 
--- tasks are not run for want of memory, and what is kept is as it was; the modules do not open; or they do, and the tasks are run in them
+-- tasks are not run for want of memory, and the log is as it was; the modules do not open; or they do, and the tasks are run in them
 pub data RunEndsAs (evaluator : Inquiry → Option Answer) (host : Entry → Option Answer) (front : Front) (root : Justfile) (recipes : List (Recipe Dependency)) (ts : List Task) (old new : Log) (result : Result Report Error) : Type 0 where
   out : result ≡ Err Memory → new ≡ old → RunEndsAs evaluator host front root recipes ts old new result
   shut : (e : Halt) → result ≡ Err (error_of e) → Opens evaluator host front root recipes ts old new (Err e) → executed_in new ≡ executed_in old →

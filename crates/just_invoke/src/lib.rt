@@ -1,6 +1,7 @@
-//! What command words mean in a module of modules, and the run of what they mean.
+//! What command words mean in a module of modules, the run of what they mean, and the form Evaluate.
 #![tactic(auto)]
 
+mod evaluate_run;
 mod groups;
 mod head;
 mod invocation;

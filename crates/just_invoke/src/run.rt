@@ -1,15 +1,23 @@
-//! The run of what command words mean.
+//! The run of a module: of what command words mean, or of the form Evaluate.
 ghost use Rattle.std.specs.Prelude.{◌≡◌, ◌≤◌, true, length, IfErr, OnOk};
+ghost use Rattle.just_justfile.specs.Running.{CanRun, HoldsOverridden, TellsBareLines};
 ghost use Rattle.just_justfile.specs.declared.justfile.Justfile.{Justfile};
-ghost use Rattle.just_invoke.specs.Outcome.{IsExcess};
+ghost use Rattle.just_names.specs.Texts.{texts};
+ghost use Rattle.just_parts.specs.Evaluator.{count_fault_of};
+ghost use Rattle.just_run_layers.specs.Host.{KeepsPromises};
+ghost use Rattle.just_run_layers.specs.Interactions.{log_of};
+ghost use Rattle.just_run_layers.specs.LineTexts.{AgreesWith};
+ghost use Rattle.just_scopes.specs.Opening.{front_of};
+ghost use Rattle.just_invoke.specs.Outcome.{IsExcess, IsOutcome, RunsAsExpected};
 
+use crate::evaluate_run::run_evaluate;
 use crate::invocation::Invocation;
 use crate::invocation_parser::InvocationParser;
 use crate::open_run::run_invocations;
 use just_data::Text;
 use just_execution::Report;
 use just_justfile::Justfile;
-use just_parts::layers::{Config, Error, Number, Output, RunError, Syntax};
+use just_parts::layers::{Config, Error, Number, Output, RunError, Subcommand, Syntax};
 use just_recipes::Recipes;
 use just_run_layers::{Evaluation, Host};
 use std::alloc::Global;
@@ -31,6 +39,58 @@ fn allow_few<'src>(
     Ok(())
 }
 
+// Runs what the words mean in modules that are opened for it.
+fn run_words<'src, S: Syntax, E: Evaluation, H: Host>(
+    alloc: Global,
+    config: &Config,
+    recipes: &Recipes<'src>,
+    syntax: &S,
+    root: &Justfile<'src>,
+    overrides: &HashMap<Number, Text>,
+    evaluation: &mut E,
+    host: &mut H,
+    words: &[&str],
+) -> Result<Report, Error<'src>>
+    requires can_run { CanRun (S.answers syntax.now) root.now recipes.now }
+    requires overridden { HoldsOverridden root.now overrides.now }
+    requires same { AgreesWith E.sigils E.continues (S.answers syntax.now) }
+    requires bare { TellsBareLines (S.answers syntax.now) }
+    ensures keeps { KeepsPromises (E.promised evaluation.old) (E.promised evaluation.new) }
+    ensures keeps_host { KeepsPromises (H.promised host.old) (H.promised host.new) }
+    ensures outcome { let counts = count_fault_of (E.answers evaluation.old) in
+        let first = log_of (H.entries host.old) (E.requests evaluation.old) in
+        let last = log_of (H.entries host.new) (E.requests evaluation.new) in
+        let front = front_of (S.answers syntax.now) config.now overrides.now in
+        let outcome = IsOutcome counts root.now recipes.now (texts words.now) config.now front (E.promised evaluation.old) (H.promised host.old) in
+        outcome first last result }
+    ensures expected { let counts = count_fault_of (E.answers evaluation.old) in
+        let front = front_of (S.answers syntax.now) config.now overrides.now in
+        let run = RunsAsExpected counts root.now recipes.now (texts words.now) config.now front (E.promised evaluation.old) (H.promised host.old) in
+        let first = log_of (H.entries host.old) (E.requests evaluation.old) in
+        let last = log_of (H.entries host.new) (E.requests evaluation.new) in
+        run first last result }
+{
+    let invocations = InvocationParser::parse_invocations(
+        alloc,
+        root,
+        recipes,
+        &*evaluation,
+        words,
+    )?;
+    allow_few(config, invocations.as_slice())?;
+    run_invocations(
+        alloc,
+        config,
+        recipes,
+        syntax,
+        root,
+        overrides,
+        evaluation,
+        host,
+        invocations.as_slice(),
+    )
+}
+
 /// Modules that can be run, as a compiled one can: `Justfile::run`.
 pub trait Run<'src> {
     ghost use Rattle.std.specs.Prelude.{◌≡◌};
@@ -40,28 +100,35 @@ pub trait Run<'src> {
     ghost use Rattle.just_run_layers.specs.Interactions.{log_of};
     ghost use Rattle.just_names.specs.Texts.{texts};
     ghost use Rattle.just_justfile.specs.Running.{CanRun, HoldsOverridden, TellsBareLines};
+    ghost use Rattle.just_invoke.specs.Evaluation.{AsksForValues, IsEvaluation, IsEvaluationAsExpected, RunsRecipes, writer_of};
     ghost use Rattle.just_invoke.specs.Outcome.{RunsAsExpected, IsOutcome};
-    ghost use Rattle.just_scopes.specs.Opening.{front_of};
+    ghost use Rattle.just_scopes.specs.Opening.{front_of, handed_of};
 
     /// The module that is run.
     ghost root: { Self → Justfile };
 
-    /// Runs what the words mean. First the modules are opened, each before those in it: the host is asked for the pairs of
-    /// its dotenv files, where the configuration says so, and the evaluation for the values of its variables, in a lazy
-    /// module of exactly those that are needed. So whatever a recipe reads that runs has its value before the first one
+    /// Does what the configuration's form asks.
+    ///
+    /// In the form Run the words are run. First the modules are opened, each before those in it: the host is asked for the
+    /// pairs of its dotenv files, where the configuration says so, and the evaluation for the values of its variables, in a
+    /// lazy module of exactly those that are needed. So whatever a recipe reads that runs has its value before the first one
     /// begins. Then each invocation runs in turn under one once table, where a recipe with equal arguments runs once, its
     /// prior dependencies before it, and its subsequent ones after it under a table of their own. A recipe that runs is asked
     /// for its parameters, its confirmation and the arguments of its dependencies; then it begins, and its body runs. The run
     /// ends at the first step that fails, with its error. Where the words are refused, the host is left as it was; where the
-    /// modules do not open, nothing is executed.
+    /// modules do not open, nothing is executed. The writer is asked nothing. The form Command does the same until it is built.
+    ///
+    /// In the form Evaluate no words are read and no recipe runs. The path that the configuration asks for leads to a variable
+    /// or a module (`just_evaluate` has how, and the errors where it leads nowhere: then nothing is asked). The modules are
+    /// opened as above, each as a lazy one, for exactly what is evaluated anyhow, for that variable or for those of that module
+    /// that are not private, and for what these read. Then the text of their values is made, and only then it is written. The
+    /// report is that of no once table. `Write` comes where the writer faults, which has a beginning of the text then.
     ///
     /// `Dotenv` and `Evaluate` come where the host or the evaluation has no answer to what it is asked.
     ///
     /// What compiling answers can run, and its overrides have all that the analysis saw. The evaluation takes the lines of
     /// bodies as the grammar does: which sigils they begin with, and which go on; and what a line is does not hang on the
     /// numbers in it.
-    ///
-    /// The writer is asked nothing yet.
     fn run<S: Syntax, E: Evaluation, H: Host, W: Output>(
         &self,
         alloc: Global,
@@ -81,23 +148,39 @@ pub trait Run<'src> {
         // Promises are kept.
         ensures keeps { KeepsPromises (E.promised evaluation.old) (E.promised evaluation.new) }
         ensures keeps_host { KeepsPromises (H.promised host.old) (H.promised host.new) }
-        // For every host.
+        // Where recipes run: for every host.
         ensures outcome { let counts = count_fault_of (E.answers evaluation.old) in
             let first = log_of (H.entries host.old) (E.requests evaluation.old) in
             let last = log_of (H.entries host.new) (E.requests evaluation.new) in
             let front = front_of (S.answers syntax.now) config.now overrides.now in
             let outcome = IsOutcome counts (root self.now) recipes.now (texts words.now) config.now front (E.promised evaluation.old) (H.promised host.old) in
-            outcome first last result }
+            RunsRecipes config.now → outcome first last result }
         // For promised answers.
         ensures expected { let counts = count_fault_of (E.answers evaluation.old) in
             let front = front_of (S.answers syntax.now) config.now overrides.now in
             let run = RunsAsExpected counts (root self.now) recipes.now (texts words.now) config.now front (E.promised evaluation.old) (H.promised host.old) in
             let first = log_of (H.entries host.old) (E.requests evaluation.old) in
             let last = log_of (H.entries host.new) (E.requests evaluation.new) in
-            run first last result }
+            RunsRecipes config.now → run first last result }
         // The writer is left as it was.
-        ensures unwritten { W.written writer.new ≡ W.written writer.old }
-        ensures unfailed { W.failed writer.new ≡ W.failed writer.old };
+        ensures unwritten { RunsRecipes config.now → W.written writer.new ≡ W.written writer.old }
+        ensures unfailed { RunsRecipes config.now → W.failed writer.new ≡ W.failed writer.old }
+        // Where values are written: for every host.
+        ensures evaluated { let first = log_of (H.entries host.old) (E.requests evaluation.old) in
+            let last = log_of (H.entries host.new) (E.requests evaluation.new) in
+            let before = writer_of (W.written writer.old) (W.failed writer.old) in
+            let after = writer_of (W.written writer.new) (W.failed writer.new) in
+            let handed = handed_of config.now overrides.now in
+            let comes = IsEvaluation E.displayed (root self.now) handed (E.promised evaluation.old) (H.promised host.old) in
+            (format : _) (path : _) → AsksForValues config.now format path → comes format path first last before after result }
+        // For promised answers.
+        ensures evaluated_expected { let first = log_of (H.entries host.old) (E.requests evaluation.old) in
+            let last = log_of (H.entries host.new) (E.requests evaluation.new) in
+            let before = writer_of (W.written writer.old) (W.failed writer.old) in
+            let after = writer_of (W.written writer.new) (W.failed writer.new) in
+            let handed = handed_of config.now overrides.now in
+            let run = IsEvaluationAsExpected E.displayed (root self.now) handed (E.promised evaluation.old) (H.promised host.old) in
+            (format : _) (path : _) → AsksForValues config.now format path → run format path first last before after result };
 }
 
 impl<'src> Run<'src> for Justfile<'src> {
@@ -115,24 +198,21 @@ impl<'src> Run<'src> for Justfile<'src> {
         words: &[&str],
         overrides: &HashMap<Number, Text>,
     ) -> Result<Report, Error<'src>> {
-        let invocations = InvocationParser::parse_invocations(
-            alloc,
-            self,
-            recipes,
-            &*evaluation,
-            words,
-        )?;
-        allow_few(config, invocations.as_slice())?;
-        run_invocations(
-            alloc,
-            config,
-            recipes,
-            syntax,
-            self,
-            overrides,
-            evaluation,
-            host,
-            invocations.as_slice(),
-        )
+        match &config.subcommand {
+            Subcommand::Evaluate { format, path } => run_evaluate(
+                alloc,
+                config,
+                self,
+                overrides,
+                *format,
+                path.as_ref(),
+                evaluation,
+                host,
+                writer,
+            ),
+            Subcommand::Run | Subcommand::Command { .. } => run_words(
+                alloc, config, recipes, syntax, self, overrides, evaluation, host, words,
+            ),
+        }
     }
 }

@@ -6,8 +6,8 @@ use Rattle.std.specs.Option.{option_to_list}
 use Rattle.std.proofs.lemmas.List.{append-nil, append_assoc, map-append, take_all, take_more}
 use Rattle.std.proofs.lemmas.List.Elements.{All-push, filter-append, filter_map-append, filter_more}
 use Rattle.just_justfile.specs.declared.justfile.Justfile.{Justfile}
-use Rattle.just_listings.specs.Order.{behind}
-use Rattle.just_listings.specs.Joined.{AreJoined, more, nothing}
+use Rattle.just_listings.specs.Order.{referents}
+use Rattle.just_listings.specs.Joined.{AreHadInTurn, more, nothing}
 
 module _ {X : Type 0} where
   -- one more of which it holds
@@ -15,14 +15,14 @@ module _ {X : Type 0} where
   all_pushed P xs ys x pushed all here = subst (All P) (sym pushed) (All-push P xs x all here)
 
   -- one more that a reference leads to
-  pub behind_more : (items : List (Bor X)) (i : ℕ) (x : Bor X) → i < length items → x ≡ get_or items i x → behind (take (i + 1) items) ≡ behind (take i items) ++ x.now ∷ []
+  pub behind_more : (items : List (Bor X)) (i : ℕ) (x : Bor X) → i < length items → x ≡ get_or items i x → referents (take (i + 1) items) ≡ referents (take i items) ++ x.now ∷ []
   behind_more items i x within at =
-      ap behind (take_more items i x within) ∙ map-append (λ (it : Bor X). it.now) (take i items) (get_or items i x ∷ []) ∙ ap (λ (y : Bor X). behind (take i items) ++ y.now ∷ []) (sym at)
+      ap referents (take_more items i x within) ∙ map-append (λ (it : Bor X). it.now) (take i items) (get_or items i x ∷ []) ∙ ap (λ (y : Bor X). referents (take i items) ++ y.now ∷ []) (sym at)
 
   -- one more reference to what stands next
-  pub taken_more : (xs : List X) (i : ℕ) (x : X) (ps qs : List (Bor X)) (p : Bor X) → i < length xs → x ≡ get_or xs i x → p.now ≡ x → qs ≡ ps ++ p ∷ [] → behind ps ≡ take i xs → behind qs ≡ take (i + 1) xs
+  pub taken_more : (xs : List X) (i : ℕ) (x : X) (ps qs : List (Bor X)) (p : Bor X) → i < length xs → x ≡ get_or xs i x → p.now ≡ x → qs ≡ ps ++ p ∷ [] → referents ps ≡ take i xs → referents qs ≡ take (i + 1) xs
   taken_more xs i x ps qs p within at is pushed listed =
-      ap behind pushed ∙ map-append (λ (it : Bor X). it.now) ps (p ∷ []) ∙ ap (λ zs. zs ++ p.now ∷ []) listed ∙ ap (λ (y : X). take i xs ++ y ∷ []) (is ∙ at) ∙ sym (take_more xs i x within)
+      ap referents pushed ∙ map-append (λ (it : Bor X). it.now) ps (p ∷ []) ∙ ap (λ zs. zs ++ p.now ∷ []) listed ∙ ap (λ (y : X). take i xs ++ y ∷ []) (is ∙ at) ∙ sym (take_more xs i x within)
 
   -- all are listed
   pub all_passed : (test : X → Bool) (xs : List X) (i : ℕ) (ys : List X) → length xs ≤ i → ys ≡ filter test (take i xs) → ys ≡ filter test xs
@@ -30,13 +30,13 @@ module _ {X : Type 0} where
 
 -- one after another
 module _ {X : Type 0} (Has : Justfile → List X → Type 0) where
-  pub joined_none : (js : List Justfile) (xs : List X) → js ≡ [] → xs ≡ [] → AreJoined Has js xs
-  joined_none js xs none empty = subst (λ ks. AreJoined Has ks xs) (sym none) (subst (AreJoined Has []) (sym empty) nothing)
+  pub joined_none : (js : List Justfile) (xs : List X) → js ≡ [] → xs ≡ [] → AreHadInTurn Has js xs
+  joined_none js xs none empty = subst (λ ks. AreHadInTurn Has ks xs) (sym none) (subst (AreHadInTurn Has []) (sym empty) nothing)
 
-  pub joined_more : (js : List Justfile) (j : Justfile) (xs here : List X) → AreJoined Has js xs → Has j here → AreJoined Has (js ++ j ∷ []) (xs ++ here)
-  joined_more [] j _ here nothing has = subst (AreJoined Has (j ∷ [])) (append-nil here) (more has nothing)
+  pub joined_more : (js : List Justfile) (j : Justfile) (xs here : List X) → AreHadInTurn Has js xs → Has j here → AreHadInTurn Has (js ++ j ∷ []) (xs ++ here)
+  joined_more [] j _ here nothing has = subst (AreHadInTurn Has (j ∷ [])) (append-nil here) (more has nothing)
   joined_more (k ∷ js) j _ here (more {here = first} {rest = rest} had others) has =
-      subst (AreJoined Has (k ∷ (js ++ j ∷ []))) (sym (append_assoc first rest here)) (more had (joined_more js j rest here others has))
+      subst (AreHadInTurn Has (k ∷ (js ++ j ∷ []))) (sym (append_assoc first rest here)) (more had (joined_more js j rest here others has))
 
 module _ {P X : Type 0} (view : P → X) (test : X → Bool) where
   one : (x : X) (b : Bool) → test x ≡ b → filter test (x ∷ []) ≡ cond b (x ∷ []) []

@@ -13,7 +13,7 @@ use Rattle.std.proofs.lemmas.List.Elements.{All-head, All-tail, filter_agree}
 use Rattle.std.proofs.lemmas.List.Sorted.{All-permutation, IsPermutation-map, length_permutation}
 use Rattle.std.specs.Borrow.{Bor}
 use Rattle.std.proofs.lemmas.Simd.{map-map}
-use Rattle.just_listings.specs.Order.{AreInOrder, IsByKey, behind, item_behind, item_of, place_of, place_order}
+use Rattle.just_listings.specs.Order.{AreInAskedOrder, IsByKey, referents, item_behind, placed_item, placed_at, place_order}
 use Rattle.just_listings.specs.declared.order.Place.{Place}
 use Rattle.just_listings.specs.declared.order.Placed.{Placed}
 
@@ -88,24 +88,24 @@ module _ {P X K : Type 0} (place : P → K) (of : X → K) (view : P → X) wher
       tied = λ k. seen_at qs (All-permutation IsSeen ps qs by.same all) k ∙ ap (map view) (by.tied k) ∙ sym (seen_at ps all k);
     }
 
-    pub seen_in_order : (unsorted : Bool) (ps qs : List P) → All IsSeen ps → AreInOrder unsorted place cmp ps qs → AreInOrder unsorted of cmp (map view ps) (map view qs)
+    pub seen_in_order : (unsorted : Bool) (ps qs : List P) → All IsSeen ps → AreInAskedOrder unsorted place cmp ps qs → AreInAskedOrder unsorted of cmp (map view ps) (map view qs)
     seen_in_order true ps qs all by = seen_by_key ps qs all by
     seen_in_order false ps qs all by = ap (map view) by
 
 module _ {K X : Type 0} (key : X → K) (cmp : K → K → Ordering) (xs ys : List X) where
   -- the order that is asked for
-  pub ordered : (unsorted : Bool) → unsorted ≡ true → IsByKey key cmp xs ys → AreInOrder unsorted key cmp xs ys
+  pub ordered : (unsorted : Bool) → unsorted ≡ true → IsByKey key cmp xs ys → AreInAskedOrder unsorted key cmp xs ys
   ordered true e by = by
   ordered false e by = cc
 
-  pub unordered : (unsorted : Bool) → unsorted ≡ false → ys ≡ xs → AreInOrder unsorted key cmp xs ys
+  pub unordered : (unsorted : Bool) → unsorted ≡ false → ys ≡ xs → AreInAskedOrder unsorted key cmp xs ys
   unordered true e same = cc
   unordered false e same = same
 
 -- things at places in order, which references lead to
 pub listed_in_order : {X : Type 0} (of : X → Place) (unsorted : Bool) (xs : List X) (ps qs : List (Placed (Bor X))) (items : List (Bor X)) → map item_behind ps ≡ xs →
-    All (λ (p : Placed (Bor X)). p.place ≡ of p.item.now) ps → AreInOrder unsorted place_of place_order ps qs → items ≡ map item_of qs → AreInOrder unsorted of place_order xs (behind items)
+    All (λ (p : Placed (Bor X)). p.place ≡ of p.item.now) ps → AreInAskedOrder unsorted placed_at place_order ps qs → items ≡ map placed_item qs → AreInAskedOrder unsorted of place_order xs (referents items)
 listed_in_order {X} of unsorted xs ps qs items listed all ordered same =
-    let seen : behind items ≡ map item_behind qs = ap behind same ∙ map-map (λ (it : Bor X). it.now) item_of qs in
-    let by = seen_in_order place_of of item_behind place_order unsorted ps qs all ordered in
-    subst (λ (ys : List X). AreInOrder unsorted of place_order xs ys) (sym seen) (subst (λ (zs : List X). AreInOrder unsorted of place_order zs (map item_behind qs)) listed by)
+    let seen : referents items ≡ map item_behind qs = ap referents same ∙ map-map (λ (it : Bor X). it.now) placed_item qs in
+    let by = seen_in_order placed_at of item_behind place_order unsorted ps qs all ordered in
+    subst (λ (ys : List X). AreInAskedOrder unsorted of place_order xs ys) (sym seen) (subst (λ (zs : List X). AreInAskedOrder unsorted of place_order zs (map item_behind qs)) listed by)

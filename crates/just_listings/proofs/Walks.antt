@@ -8,16 +8,16 @@ use Rattle.std.proofs.lemmas.List.Sorted.{sum_by-IsPermutation}
 use Rattle.std.proofs.lemmas.List.Sums.{sum_by-append, sum_by-cons}
 use Rattle.just_justfile.specs.declared.justfile.Justfile.{Justfile, out-Justfile}
 use Rattle.just_justfile.proofs.Counts.{count, count_is}
-use Rattle.just_listings.specs.Order.{behind}
+use Rattle.just_listings.specs.Order.{referents}
 use Rattle.just_listings.specs.Preorder.{AreChosen, AreInPreorder, next, none}
 use Rattle.just_listings.specs.Public.{ArePublicModules, is_public_module}
 use Rattle.just_listings.specs.declared.walk.Choice.{Choice}
 use Rattle.just_listings.specs.declared.walk.Choice.TheVariants as choice
 
-behind_reversed : (xs : List (Bor Justfile)) → behind (reverse xs) ≡ reverse (behind xs)
+behind_reversed : (xs : List (Bor Justfile)) → referents (reverse xs) ≡ reverse (referents xs)
 behind_reversed [] = refl
 behind_reversed (x ∷ xs) =
-    ap behind (reverse-append (x ∷ []) xs) ∙ map-append (λ (it : Bor Justfile). it.now) (reverse xs) (x ∷ []) ∙ ap (λ ys. ys ++ x.now ∷ []) (behind_reversed xs) ∙ sym (reverse-append (x.now ∷ []) (behind xs))
+    ap referents (reverse-append (x ∷ []) xs) ∙ map-append (λ (it : Bor Justfile). it.now) (reverse xs) (x ∷ []) ∙ ap (λ ys. ys ++ x.now ∷ []) (behind_reversed xs) ∙ sym (reverse-append (x.now ∷ []) (referents xs))
 
 twice : (xs : List Justfile) → reverse (reverse xs) ≡ xs
 twice xs = reverse-reverse xs
@@ -38,40 +38,40 @@ module _ (which : Choice) where
 
   -- the walk from what is listed: whatever is listed of those that are left, the last of which is taken next, all is in preorder
   abbrev pub Walks : Justfile → List (Bor Justfile) → List (Bor Justfile) → Type 0
-  Walks root done left = (rest : List Justfile) → AreInPreorder which (reverse (behind left)) rest → AreInPreorder which (root ∷ []) (behind done ++ rest)
+  Walks root done left = (rest : List Justfile) → AreInPreorder which (reverse (referents left)) rest → AreInPreorder which (root ∷ []) (referents done ++ rest)
 
   pub begins : (root : Bor Justfile) (done left : List (Bor Justfile)) → done ≡ [] → left ≡ root ∷ [] → Walks root.now done left
   begins root done left no_done one_left rest p =
-      subst (λ (xs : List (Bor Justfile)). AreInPreorder which (root.now ∷ []) (behind xs ++ rest)) (sym no_done)
-      (subst (λ (xs : List (Bor Justfile)). AreInPreorder which (reverse (behind xs)) rest) one_left p)
+      subst (λ (xs : List (Bor Justfile)). AreInPreorder which (root.now ∷ []) (referents xs ++ rest)) (sym no_done)
+      (subst (λ (xs : List (Bor Justfile)). AreInPreorder which (reverse (referents xs)) rest) one_left p)
 
   -- those that are left, where a module's own take its place
-  turned : (front inner turn left : List (Bor Justfile)) → turn ≡ reverse inner → left ≡ front ++ turn → reverse (behind left) ≡ behind inner ++ reverse (behind front)
+  turned : (front inner turn left : List (Bor Justfile)) → turn ≡ reverse inner → left ≡ front ++ turn → reverse (referents left) ≡ referents inner ++ reverse (referents front)
   turned front inner turn left back added =
-      ap (λ (xs : List (Bor Justfile)). reverse (behind xs)) (added ∙ ap (λ xs. front ++ xs) back)
+      ap (λ (xs : List (Bor Justfile)). reverse (referents xs)) (added ∙ ap (λ xs. front ++ xs) back)
       ∙ ap reverse (map-append (λ (it : Bor Justfile). it.now) front (reverse inner))
-      ∙ reverse-append (behind front) (behind (reverse inner))
-      ∙ ap (λ xs. reverse xs ++ reverse (behind front)) (behind_reversed inner)
-      ∙ ap (λ xs. xs ++ reverse (behind front)) (twice (behind inner))
+      ∙ reverse-append (referents front) (referents (reverse inner))
+      ∙ ap (λ xs. reverse xs ++ reverse (referents front)) (behind_reversed inner)
+      ∙ ap (λ xs. xs ++ reverse (referents front)) (twice (referents inner))
 
-  pub walks_on : (root : Justfile) (done left front inner turn more after : List (Bor Justfile)) (j : Bor Justfile) → left ≡ front ++ j ∷ [] → AreChosen which j.now (behind inner) → turn ≡ reverse inner → more ≡ front ++ turn →
+  pub walks_on : (root : Justfile) (done left front inner turn more after : List (Bor Justfile)) (j : Bor Justfile) → left ≡ front ++ j ∷ [] → AreChosen which j.now (referents inner) → turn ≡ reverse inner → more ≡ front ++ turn →
       after ≡ done ++ j ∷ [] → Walks root done left → Walks root after more
   walks_on root done left front inner turn more after j taken chosen back added pushed walks rest p =
-      let last : reverse (behind left) ≡ j.now ∷ reverse (behind front) =
-      ap (λ (xs : List (Bor Justfile)). reverse (behind xs)) taken ∙ ap reverse (map-append (λ (it : Bor Justfile). it.now) front (j ∷ [])) ∙ reverse-append (behind front) (j.now ∷ []) in
-      let under : AreInPreorder which (behind inner ++ reverse (behind front)) rest = subst (λ xs. AreInPreorder which xs rest) (turned front inner turn more back added) p in
-      let here : AreInPreorder which (reverse (behind left)) (j.now ∷ rest) = subst (λ xs. AreInPreorder which xs (j.now ∷ rest)) (sym last) (listed j.now (behind inner) (reverse (behind front)) rest chosen under) in
-      let whole : behind done ++ (j.now ∷ rest) ≡ behind after ++ rest =
-      sym (append_assoc (behind done) (j.now ∷ []) rest) ∙ ap (λ xs. xs ++ rest) (sym (ap behind pushed ∙ map-append (λ (it : Bor Justfile). it.now) done (j ∷ []))) in
+      let last : reverse (referents left) ≡ j.now ∷ reverse (referents front) =
+      ap (λ (xs : List (Bor Justfile)). reverse (referents xs)) taken ∙ ap reverse (map-append (λ (it : Bor Justfile). it.now) front (j ∷ [])) ∙ reverse-append (referents front) (j.now ∷ []) in
+      let under : AreInPreorder which (referents inner ++ reverse (referents front)) rest = subst (λ xs. AreInPreorder which xs rest) (turned front inner turn more back added) p in
+      let here : AreInPreorder which (reverse (referents left)) (j.now ∷ rest) = subst (λ xs. AreInPreorder which xs (j.now ∷ rest)) (sym last) (listed j.now (referents inner) (reverse (referents front)) rest chosen under) in
+      let whole : referents done ++ (j.now ∷ rest) ≡ referents after ++ rest =
+      sym (append_assoc (referents done) (j.now ∷ []) rest) ∙ ap (λ xs. xs ++ rest) (sym (ap referents pushed ∙ map-append (λ (it : Bor Justfile). it.now) done (j ∷ []))) in
       subst (AreInPreorder which (root ∷ [])) whole (walks (j.now ∷ rest) here)
 
-  pub ends : (root : Justfile) (done left : List (Bor Justfile)) → left ≡ [] → Walks root done left → AreInPreorder which (root ∷ []) (behind done)
+  pub ends : (root : Justfile) (done left : List (Bor Justfile)) → left ≡ [] → Walks root done left → AreInPreorder which (root ∷ []) (referents done)
   ends root done left none_left walks =
-      subst (AreInPreorder which (root ∷ [])) (append-nil (behind done)) (walks [] (subst (λ (xs : List (Bor Justfile)). AreInPreorder which (reverse (behind xs)) []) (sym none_left) none))
+      subst (AreInPreorder which (root ∷ [])) (append-nil (referents done)) (walks [] (subst (λ (xs : List (Bor Justfile)). AreInPreorder which (reverse (referents xs)) []) (sym none_left) none))
 
 -- how many modules there are in those that are left
 abbrev pub count_all : List (Bor Justfile) → ℕ
-count_all left = sum_by count (behind left)
+count_all left = sum_by count (referents left)
 
 public_counted : (j : Justfile) (unsorted : Bool) (modules : List Justfile) → ArePublicModules unsorted j modules → sum_by count modules ≤ sum_by count (out-Justfile j).modules
 public_counted j true modules public =
@@ -89,16 +89,16 @@ chosen_counted choice.Public j modules chosen = public_counted j false modules c
 chosen_counted choice.PublicUnsorted j modules chosen = public_counted j true modules chosen
 
 count_append : (xs ys : List (Bor Justfile)) → count_all (xs ++ ys) ≡ count_all xs + count_all ys
-count_append xs ys = ap (sum_by count) (map-append (λ (it : Bor Justfile). it.now) xs ys) ∙ sum_by-append count (behind xs) (behind ys)
+count_append xs ys = ap (sum_by count) (map-append (λ (it : Bor Justfile). it.now) xs ys) ∙ sum_by-append count (referents xs) (referents ys)
 
 count_reversed : (xs : List (Bor Justfile)) → count_all (reverse xs) ≡ count_all xs
 count_reversed [] = refl
 count_reversed (x ∷ xs) =
     let parted = ap count_all (reverse-append (x ∷ []) xs) in
-    omega (arith, parted, count_append (reverse xs) (x ∷ []), count_reversed xs, sum_by-cons count x.now (behind xs))
+    omega (arith, parted, count_append (reverse xs) (x ∷ []), count_reversed xs, sum_by-cons count x.now (referents xs))
 
 -- fewer are left where a module's own take its place
-pub fewer : (which : Choice) (left front inner turn more : List (Bor Justfile)) (j : Bor Justfile) → left ≡ front ++ j ∷ [] → AreChosen which j.now (behind inner) → turn ≡ reverse inner → more ≡ front ++ turn → count_all more < count_all left
+pub fewer : (which : Choice) (left front inner turn more : List (Bor Justfile)) (j : Bor Justfile) → left ≡ front ++ j ∷ [] → AreChosen which j.now (referents inner) → turn ≡ reverse inner → more ≡ front ++ turn → count_all more < count_all left
 fewer which left front inner turn more j taken chosen back added =
     omega (
       arith,
@@ -108,6 +108,6 @@ fewer which left front inner turn more j taken chosen back added =
       count_append front (j ∷ []),
       count_append front turn,
       count_reversed inner,
-      chosen_counted which j.now (behind inner) chosen,
+      chosen_counted which j.now (referents inner) chosen,
       count_is j.now,
     )

@@ -5,7 +5,7 @@ use Rattle.just_names.specs.declared.number.Number.{Number}
 use Rattle.just_paths.specs.declared.modulepath.Modulepath.{Modulepath}
 use Rattle.just_justfile.specs.Closed.{Held}
 use Rattle.just_justfile.specs.declared.justfile.Justfile.{Justfile}
-use Rattle.just_listings.specs.Joined.{AreJoined}
+use Rattle.just_listings.specs.Joined.{AreHadInTurn}
 use Rattle.just_listings.specs.Preorder.{AreInPreorder, choice_of}
 use Rattle.just_listings.specs.Public.{ArePublicRecipes, aliases_shown}
 
@@ -13,7 +13,7 @@ use Rattle.just_listings.specs.Public.{ArePublicRecipes, aliases_shown}
 pub record ArePublicRecipesBelow (unsorted : Bool) (recipes : Held) (root : Justfile) (found : Held) : Type 0 where
   pub modules : List Justfile
   pub walked : AreInPreorder (choice_of unsorted) (root ∷ []) modules
-  pub joined : AreJoined (ArePublicRecipes unsorted recipes) modules found
+  pub joined : AreHadInTurn (ArePublicRecipes unsorted recipes) modules found
 
 -- The public aliases of recipes of these modules, each with the path of its module, in the same order.
 pub record ArePublicAliasesBelow (unsorted : Bool) (root : Justfile) (found : List (Alias Number × Modulepath)) : Type 0 where

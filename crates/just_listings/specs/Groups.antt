@@ -1,7 +1,8 @@
 -- The groups that listings show, and in which order.
-use Rattle.std.specs.Prelude.{◌≡◌, Bool, true, false, not, List, [], ◌∷◌, ◌++◌, flat_map, map, Option, None, Some}
+use Rattle.std.specs.Prelude.{◌≡◌, ◌↔◌, Bool, true, false, not, List, [], ◌∷◌, ◌++◌, flat_map, map, Option, None, Some}
 use Rattle.std.specs.Cmp.Lexicographic.{slice_cmp}
-use Rattle.std.specs.List.{filter, filter_map}
+use Rattle.std.specs.List.{Contains, filter, filter_map}
+use Rattle.std.specs.List.Sorted.{IsStrictlySortedBy}
 use Rattle.std.specs.Ordering.{nat_cmp, ordering_then}
 use Rattle.std.specs.Str.{bytes_eq}
 use Rattle.std.specs.declared.cmp.Ordering.{Ordering}
@@ -16,7 +17,7 @@ use Rattle.just_recipe.specs.declared.recipe.Recipe.{Recipe}
 use Rattle.just_recipe_run.specs.Calls.{is_public}
 use Rattle.just_justfile.specs.Closed.{Held}
 use Rattle.just_justfile.specs.declared.justfile.Justfile.{Justfile, out-Justfile}
-use Rattle.just_listings.specs.Order.{IsByKey, item_of, place_order}
+use Rattle.just_listings.specs.Order.{IsByKey, placed_item, place_order}
 use Rattle.just_listings.specs.Public.{is_public_module, module_place, own_recipes, recipe_place}
 use Rattle.just_listings.specs.declared.order.Place.{Place}
 use Rattle.just_listings.specs.declared.order.Placed.{Placed}
@@ -29,6 +30,11 @@ group_said _ = None
 -- the groups that attributes name, in order
 abbrev pub groups_said : List (NamedAttribute Expression) → List Text
 groups_said = filter_map (λ (named : NamedAttribute Expression). group_said named.attribute)
+
+-- The groups of a recipe: the texts that its attributes name, each once and in byte order.
+pub record AreGroupsOf (r : Recipe Dependency) (texts : List Text) : Type 0 where
+  pub rising : IsStrictlySortedBy (slice_cmp nat_cmp) texts
+  pub same : (text : Text) → Contains texts text ↔ Contains (groups_said r.attributes) text
 
 -- the groups of a module, in order
 abbrev pub group_texts : Justfile → List Text
@@ -59,7 +65,7 @@ group_order a b = ordering_then (place_order a.place b.place) (slice_cmp nat_cmp
 -- in the order of the texts, or unsorted of the places and then the texts
 abbrev pub AreGroupsInOrder : Bool → List (Placed Text) → List (Placed Text) → Type 0
 AreGroupsInOrder true groups ordered = IsByKey itself group_order groups ordered
-AreGroupsInOrder false groups ordered = IsByKey item_of (slice_cmp nat_cmp) groups ordered
+AreGroupsInOrder false groups ordered = IsByKey placed_item (slice_cmp nat_cmp) groups ordered
 
 -- texts, each only where it stands first
 abbrev pub firsts : List Text → List Text
@@ -70,4 +76,4 @@ firsts (x ∷ xs) = x ∷ filter (λ y. not (bytes_eq x y)) (firsts xs)
 pub record ArePublicGroups (unsorted : Bool) (recipes : Held) (j : Justfile) (texts : List Text) : Type 0 where
   pub ordered : List (Placed Text)
   pub in_order : AreGroupsInOrder unsorted (shown_groups recipes j) ordered
-  pub first : texts ≡ firsts (map item_of ordered)
+  pub first : texts ≡ firsts (map placed_item ordered)

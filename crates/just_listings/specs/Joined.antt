@@ -3,6 +3,6 @@ use Rattle.std.specs.Prelude.{List, [], ◌∷◌, ◌++◌}
 use Rattle.just_justfile.specs.declared.justfile.Justfile.{Justfile}
 
 -- What each of some modules has, in turn.
-pub data AreJoined {X : Type 0} (Has : Justfile → List X → Type 0) : List Justfile → List X → Type 0 where
-  nothing : AreJoined Has [] []
-  more : {j : Justfile} {js : List Justfile} {here rest : List X} → Has j here → AreJoined Has js rest → AreJoined Has (j ∷ js) (here ++ rest)
+pub data AreHadInTurn {X : Type 0} (Has : Justfile → List X → Type 0) : List Justfile → List X → Type 0 where
+  nothing : AreHadInTurn Has [] []
+  more : {j : Justfile} {js : List Justfile} {here rest : List X} → Has j here → AreHadInTurn Has js rest → AreHadInTurn Has (j ∷ js) (here ++ rest)

@@ -4,4 +4,5 @@ pub mod Joined
 pub mod Order
 pub mod Preorder
 pub mod Public
+pub mod Shown
 pub mod Unstable

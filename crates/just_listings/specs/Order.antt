@@ -16,23 +16,23 @@ pub record IsByKey {X K : Type 0} (key : X → K) (cmp : K → K → Ordering) (
   pub tied : (k : K) → filter (λ x. is_eq (cmp (key x) k)) ys ≡ filter (λ x. is_eq (cmp (key x) k)) xs
 
 -- by its keys where that is asked for, and otherwise as it is
-abbrev pub AreInOrder : {X K : Type 0} → Bool → (X → K) → (K → K → Ordering) → List X → List X → Type 0
-AreInOrder true key cmp xs ys = IsByKey key cmp xs ys
-AreInOrder false key cmp xs ys = ys ≡ xs
+abbrev pub AreInAskedOrder : {X K : Type 0} → Bool → (X → K) → (K → K → Ordering) → List X → List X → Type 0
+AreInAskedOrder true key cmp xs ys = IsByKey key cmp xs ys
+AreInAskedOrder false key cmp xs ys = ys ≡ xs
 
 -- places, by their imports, and then by what stands before them
 abbrev pub place_order : Place → Place → Ordering
 place_order a b = ordering_then (slice_cmp nat_cmp a.imports b.imports) (nat_cmp a.offset b.offset)
 
-abbrev pub place_of : {T : Type 0} → Placed T → Place
-place_of p = p.place
+abbrev pub placed_at : {T : Type 0} → Placed T → Place
+placed_at p = p.place
 
-abbrev pub item_of : {T : Type 0} → Placed T → T
-item_of p = p.item
+abbrev pub placed_item : {T : Type 0} → Placed T → T
+placed_item p = p.item
 
 -- what references lead to
-abbrev pub behind : {X : Type 0} → List (Bor X) → List X
-behind {X} refs = map (λ (it : Bor X). it.now) refs
+abbrev pub referents : {X : Type 0} → List (Bor X) → List X
+referents {X} refs = map (λ (it : Bor X). it.now) refs
 
 abbrev pub item_behind : {X : Type 0} → Placed (Bor X) → X
 item_behind p = p.item.now

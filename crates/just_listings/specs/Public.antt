@@ -16,7 +16,7 @@ use Rattle.just_recipe_run.specs.Calls.{is_public, says_private}
 use Rattle.just_justfile.specs.Closed.{Held}
 use Rattle.just_justfile.specs.declared.justfile.Justfile.{Justfile, out-Justfile}
 use Rattle.just_justfile.specs.declared.justfile.RecipeKey.{RecipeKey}
-use Rattle.just_listings.specs.Order.{AreInOrder, place_order}
+use Rattle.just_listings.specs.Order.{AreInAskedOrder, place_order}
 use Rattle.just_listings.specs.declared.order.Place.{Place}
 
 -- how many bytes stand before a name; none before one that is not there
@@ -34,7 +34,7 @@ module_place j = record { imports = []; offset = offset_of (out-Justfile j).name
 
 -- the public modules of a module: in the order of their names, or unsorted by their places, where those of one place stay in that order
 abbrev pub ArePublicModules : Bool → Justfile → List Justfile → Type 0
-ArePublicModules unsorted j modules = AreInOrder unsorted module_place place_order (filter is_public_module (out-Justfile j).modules) modules
+ArePublicModules unsorted j modules = AreInAskedOrder unsorted module_place place_order (filter is_public_module (out-Justfile j).modules) modules
 
 -- the held recipes that these keys name
 abbrev pub recipes_named : Held → List RecipeKey → Held
@@ -50,7 +50,7 @@ recipe_place r = record { imports = r.import_offsets; offset = r.name.token.offs
 
 -- the public recipes of a module: in the order of their names, or unsorted by their places, where those of one place stay in that order
 abbrev pub ArePublicRecipes : Bool → Held → Justfile → Held → Type 0
-ArePublicRecipes unsorted recipes j found = AreInOrder unsorted recipe_place place_order (filter is_public (own_recipes recipes j)) found
+ArePublicRecipes unsorted recipes j found = AreInAskedOrder unsorted recipe_place place_order (filter is_public (own_recipes recipes j)) found
 
 -- the text begins with `_`
 abbrev pub is_low : Text → Bool

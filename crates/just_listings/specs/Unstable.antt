@@ -11,13 +11,13 @@ use Rattle.just_listings.specs.Preorder.{AreInPreorder}
 use Rattle.just_listings.specs.declared.walk.Choice.TheVariants as choice
 
 -- the first of some texts
-abbrev pub first_of : List Text → Option Text
-first_of [] = None
-first_of (x ∷ xs) = Some x
+abbrev pub first_text : List Text → Option Text
+first_text [] = None
+first_text (x ∷ xs) = Some x
 
 -- the least feature of a module that is not stable
 abbrev pub least_feature : Justfile → Option Text
-least_feature j = first_of (values_of (out-Justfile j).unstable_features)
+least_feature j = first_text (values_of (out-Justfile j).unstable_features)
 
 -- the feature of a module that is refused: its least, unless all are allowed, or the module allows them
 abbrev pub refused : Bool → Justfile → Option Text
@@ -30,7 +30,7 @@ pub record AreAllAllowed (allowed : Bool) (root : Justfile) : Type 0 where
   pub none : All (λ j. refused allowed j ≡ None) modules
 
 -- Why the module is refused: want of memory, or the feature of the first of the module and of those below it of which one is refused.
-pub data IsRefusal (allowed : Bool) (root : Justfile) : Error → Type 0 where
-  no_memory : IsRefusal allowed root Memory
+pub data IsUnstableRefusal (allowed : Bool) (root : Justfile) : Error → Type 0 where
+  no_memory : IsUnstableRefusal allowed root Memory
   unstable : (before after : List Justfile) (j : Justfile) (feature : Text) → AreInPreorder choice.All (root ∷ []) (before ++ j ∷ after) → All (λ k. refused allowed k ≡ None) before → refused allowed j ≡ Some feature →
-      IsRefusal allowed root (Run (UnstableFeature feature))
+      IsUnstableRefusal allowed root (Run (UnstableFeature feature))

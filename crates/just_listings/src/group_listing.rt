@@ -12,14 +12,14 @@ use std::alloc::{AllocError, Global};
 pub trait GroupListing<'src> {
     ghost use Rattle.std.specs.Prelude.{◌≡◌, IfOk};
     ghost use Rattle.just_listings.specs.Groups.{ArePublicGroups, group_texts};
-    ghost use Rattle.just_listings.specs.Order.{behind};
+    ghost use Rattle.just_listings.specs.Order.{referents};
 
     /// The module that is listed.
     ghost grouped: { Self → Justfile };
 
     /// The groups that the declaration of the module names, in order. The error is want of memory.
     fn groups<'run>(&'run self, alloc: Global) -> Result<Vec<&'run str>, AllocError>
-        ensures { IfOk result (λ texts. behind texts.items ≡ group_texts (grouped self.now)) };
+        ensures { IfOk result (λ texts. referents texts.items ≡ group_texts (grouped self.now)) };
 
     /// The groups of the public recipes of the module, of these, and of its public modules, each once: in the order of their
     /// texts; unsorted in that of the first that is in them, by the imports that lead to it, of which a module has none, what

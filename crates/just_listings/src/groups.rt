@@ -5,7 +5,7 @@ ghost use Rattle.std.specs.Option.{option_copied};
 ghost use Rattle.just_justfile.specs.declared.justfile.Justfile.{out-Justfile};
 ghost use Rattle.just_recipe_run.specs.Calls.{is_public};
 ghost use Rattle.just_listings.specs.Groups as spec;
-ghost use Rattle.just_listings.specs.Order.{behind, item_of};
+ghost use Rattle.just_listings.specs.Order.{referents, placed_item};
 ghost use Rattle.just_listings.specs.Public.{is_public_module, own_recipes};
 
 use crate::modules::{place_of_module, public_modules};
@@ -18,7 +18,7 @@ use just_parts::layers::Attribute;
 use just_recipes::Recipes;
 use std::alloc::{AllocError, Global};
 use std::cmp::Ordering;
-use std::collections::HashSet;
+use std::collections::{BTreeSet, HashSet};
 
 // The group that an attribute names.
 fn group_said<'a, 'src>(attribute: &'a Attribute<'src>) -> Option<&'a Text>
@@ -28,6 +28,22 @@ fn group_said<'a, 'src>(attribute: &'a Attribute<'src>) -> Option<&'a Text>
         Attribute::Group(group) => Some(&group.cooked),
         _ => None,
     }
+}
+
+/// The groups of a recipe, each once and in byte order.
+pub(crate) fn recipe_groups<'src>(
+    alloc: Global,
+    recipe: &Recipe<'src>,
+) -> Result<BTreeSet<Text>, AllocError>
+    ensures { IfOk result (λ groups. spec.AreGroupsOf recipe.now groups.keys) }
+{
+    let mut groups = BTreeSet::new(alloc);
+    for named in recipe.attributes.as_slice() {
+        if let Some(group) = group_said(&named.attribute) {
+            groups.insert(group.clone()?)?;
+        }
+    }
+    Ok(groups)
 }
 
 // Adds the groups of a recipe, each where the recipe stands.
@@ -53,13 +69,13 @@ fn add_recipe_groups<'src>(
 fn add_module_groups<'src>(
     alloc: Global,
     groups: &mut Vec<Placed<Text>>,
-    module: &Justfile<'src>,
+    justfile: &Justfile<'src>,
 ) -> Result<(), AllocError>
-    ensures { OnOk result (groups.new.items ≡ groups.old.items ++ spec.module_groups module.now) }
+    ensures { OnOk result (groups.new.items ≡ groups.old.items ++ spec.module_groups justfile.now) }
 {
-    for group in module.groups.as_slice() {
+    for group in justfile.groups.as_slice() {
         groups.push(Placed {
-            place: place_of_module(alloc, module),
+            place: place_of_module(alloc, justfile),
             item: group.cooked.clone()?,
         })?;
     }
@@ -71,11 +87,11 @@ fn add_groups_of_recipes<'src>(
     alloc: Global,
     groups: &mut Vec<Placed<Text>>,
     recipes: &Recipes<'src>,
-    module: &Justfile<'src>,
+    justfile: &Justfile<'src>,
 ) -> Result<(), AllocError>
-    ensures { OnOk result (groups.new.items ≡ groups.old.items ++ flat_map spec.recipe_groups (filter is_public (own_recipes recipes.now module.now))) }
+    ensures { OnOk result (groups.new.items ≡ groups.old.items ++ flat_map spec.recipe_groups (filter is_public (own_recipes recipes.now justfile.now))) }
 {
-    let found = public_recipes(alloc, false, recipes, module)?;
+    let found = public_recipes(alloc, false, recipes, justfile)?;
     for at in 0..found.len() {
         add_recipe_groups(alloc, groups, &*found[at])?;
     }
@@ -86,11 +102,11 @@ fn add_groups_of_recipes<'src>(
 fn add_groups_of_modules<'src>(
     alloc: Global,
     groups: &mut Vec<Placed<Text>>,
-    module: &Justfile<'src>,
+    justfile: &Justfile<'src>,
 ) -> Result<(), AllocError>
-    ensures { OnOk result (groups.new.items ≡ groups.old.items ++ flat_map spec.module_groups (filter is_public_module (out-Justfile module.now).modules)) }
+    ensures { OnOk result (groups.new.items ≡ groups.old.items ++ flat_map spec.module_groups (filter is_public_module (out-Justfile justfile.now).modules)) }
 {
-    let modules = public_modules(alloc, false, module)?;
+    let modules = public_modules(alloc, false, justfile)?;
     for at in 0..modules.len() {
         add_module_groups(alloc, groups, &*modules[at])?;
     }
@@ -121,7 +137,7 @@ fn ordered_groups(
 
 // The groups, each only where it stands first.
 fn first_groups(alloc: Global, groups: &[Placed<Text>]) -> Result<Vec<Text>, AllocError>
-    ensures { IfOk result (λ texts. texts.items ≡ spec.firsts (map item_of groups.now)) }
+    ensures { IfOk result (λ texts. texts.items ≡ spec.firsts (map placed_item groups.now)) }
 {
     let mut seen = HashSet::new(alloc);
     let mut texts = Vec::new(alloc);
@@ -139,13 +155,13 @@ pub(crate) fn public_groups<'src>(
     alloc: Global,
     unsorted: bool,
     recipes: &Recipes<'src>,
-    module: &Justfile<'src>,
+    justfile: &Justfile<'src>,
 ) -> Result<Vec<Text>, AllocError>
-    ensures { IfOk result (λ texts. spec.ArePublicGroups unsorted recipes.now module.now texts.items) }
+    ensures { IfOk result (λ texts. spec.ArePublicGroups unsorted recipes.now justfile.now texts.items) }
 {
     let mut groups = Vec::new(alloc);
-    add_groups_of_recipes(alloc, &mut groups, recipes, module)?;
-    add_groups_of_modules(alloc, &mut groups, module)?;
+    add_groups_of_recipes(alloc, &mut groups, recipes, justfile)?;
+    add_groups_of_modules(alloc, &mut groups, justfile)?;
     let ordered = ordered_groups(unsorted, groups)?;
     let texts = first_groups(alloc, ordered.as_slice())?;
     Ok(texts)
@@ -154,12 +170,12 @@ pub(crate) fn public_groups<'src>(
 /// The groups of a module, in order.
 pub(crate) fn group_texts<'run, 'src>(
     alloc: Global,
-    module: &'run Justfile<'src>,
+    justfile: &'run Justfile<'src>,
 ) -> Result<Vec<&'run str>, AllocError>
-    ensures { IfOk result (λ groups. behind groups.items ≡ spec.group_texts module.now) }
+    ensures { IfOk result (λ groups. referents groups.items ≡ spec.group_texts justfile.now) }
 {
     let mut groups = Vec::new(alloc);
-    for group in module.groups.as_slice() {
+    for group in justfile.groups.as_slice() {
         groups.push(group.cooked.as_str())?;
     }
     Ok(groups)

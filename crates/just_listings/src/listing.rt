@@ -11,7 +11,7 @@ use std::alloc::{AllocError, Global};
 /// Modules whose recipes can be listed, as those of compiled ones can.
 pub trait Listing<'src> {
     ghost use Rattle.std.specs.Prelude.{IfOk};
-    ghost use Rattle.just_listings.specs.Order.{behind};
+    ghost use Rattle.just_listings.specs.Order.{referents};
     ghost use Rattle.just_listings.specs.Public.{ArePublicRecipes};
 
     /// The module that is listed.
@@ -25,7 +25,7 @@ pub trait Listing<'src> {
         config: &Config,
         recipes: &'run Recipes<'src>,
     ) -> Result<Vec<&'run Recipe<'src>>, AllocError>
-        ensures { IfOk result (λ found. ArePublicRecipes config.now.unsorted recipes.now (listed self.now) (behind found.items)) };
+        ensures { IfOk result (λ found. ArePublicRecipes config.now.unsorted recipes.now (listed self.now) (referents found.items)) };
 }
 
 impl<'src> Listing<'src> for Justfile<'src> {

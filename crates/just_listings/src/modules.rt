@@ -1,7 +1,7 @@
 //! The public modules of a module.
 ghost use Rattle.std.specs.Prelude.{◌≡◌, map, IfOk};
 ghost use Rattle.std.specs.List.{All, filter};
-ghost use Rattle.just_listings.specs.Order.{behind, item_behind};
+ghost use Rattle.just_listings.specs.Order.{referents, item_behind};
 ghost use Rattle.just_listings.specs.Public.{ArePublicModules, is_public_module, module_place};
 
 use crate::order::{Place, Placed, in_order, items_of};
@@ -10,10 +10,10 @@ use just_justfile::Justfile;
 use std::alloc::{AllocError, Global};
 
 /// Where a module is declared. By which import its declaration comes in is not told.
-pub(crate) fn place_of_module<'src>(alloc: Global, module: &Justfile<'src>) -> Place
-    ensures { result ≡ module_place module.now }
+pub(crate) fn place_of_module<'src>(alloc: Global, justfile: &Justfile<'src>) -> Place
+    ensures { result ≡ module_place justfile.now }
 {
-    let offset = match &module.name {
+    let offset = match &justfile.name {
         Some(name) => name.offset(),
         None => 0,
     };
@@ -47,11 +47,11 @@ fn placed_modules<'run, 'src>(
 pub(crate) fn public_modules<'run, 'src>(
     alloc: Global,
     unsorted: bool,
-    module: &'run Justfile<'src>,
+    justfile: &'run Justfile<'src>,
 ) -> Result<Vec<&'run Justfile<'src>>, AllocError>
-    ensures { IfOk result (λ modules. ArePublicModules unsorted module.now (behind modules.items)) }
+    ensures { IfOk result (λ modules. ArePublicModules unsorted justfile.now (referents modules.items)) }
 {
-    let placed = placed_modules(alloc, module.modules.as_slice())?;
+    let placed = placed_modules(alloc, justfile.modules.as_slice())?;
     let ordered = in_order(unsorted, placed)?;
     let modules = items_of(alloc, ordered)?;
     Ok(modules)

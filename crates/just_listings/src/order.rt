@@ -1,6 +1,6 @@
 //! Lists in the order of a text.
 ghost use Rattle.std.specs.Prelude.{◌≡◌, map, IfOk};
-ghost use Rattle.just_listings.specs.Order.{AreInOrder, item_of, place_of, place_order};
+ghost use Rattle.just_listings.specs.Order.{AreInAskedOrder, placed_item, placed_at, place_order};
 
 use just_data::Sequence;
 use std::alloc::{AllocError, Global};
@@ -25,7 +25,7 @@ pub(crate) fn in_order<T: Drop>(
     unsorted: bool,
     mut placed: Vec<Placed<T>>,
 ) -> Result<Vec<Placed<T>>, AllocError>
-    ensures { IfOk result (λ there. AreInOrder unsorted place_of place_order placed.items there.items) }
+    ensures { IfOk result (λ there. AreInAskedOrder unsorted placed_at place_order placed.items there.items) }
 {
     if unsorted {
         placed.sort_by(|a, b| a.place.cmp(&b.place))?;
@@ -35,7 +35,7 @@ pub(crate) fn in_order<T: Drop>(
 
 /// What stands at places, without these.
 pub(crate) fn items_of<T: Drop>(alloc: Global, placed: Vec<Placed<T>>) -> Result<Vec<T>, AllocError>
-    ensures { IfOk result (λ items. items.items ≡ map item_of placed.items) }
+    ensures { IfOk result (λ items. items.items ≡ map placed_item placed.items) }
 {
     placed.into_iter().map(|it| it.item).collect(alloc)
 }

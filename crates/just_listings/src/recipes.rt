@@ -3,7 +3,7 @@ ghost use Rattle.std.specs.Prelude.{◌≡◌, map, IfOk};
 ghost use Rattle.std.specs.List.{All, filter};
 ghost use Rattle.std.specs.Map.{values_of};
 ghost use Rattle.just_recipe_run.specs.Calls.{is_public};
-ghost use Rattle.just_listings.specs.Order.{behind, item_behind};
+ghost use Rattle.just_listings.specs.Order.{referents, item_behind};
 ghost use Rattle.just_listings.specs.Public.{ArePublicRecipes, recipe_place, recipes_named};
 
 use crate::order::{Place, Placed, in_order, items_of};
@@ -56,11 +56,11 @@ pub(crate) fn public_recipes<'run, 'src>(
     alloc: Global,
     unsorted: bool,
     recipes: &'run Recipes<'src>,
-    module: &Justfile<'src>,
+    justfile: &Justfile<'src>,
 ) -> Result<Vec<&'run Recipe<'src>>, AllocError>
-    ensures { IfOk result (λ found. ArePublicRecipes unsorted recipes.now module.now (behind found.items)) }
+    ensures { IfOk result (λ found. ArePublicRecipes unsorted recipes.now justfile.now (referents found.items)) }
 {
-    let placed = placed_recipes(alloc, recipes, &module.recipes)?;
+    let placed = placed_recipes(alloc, recipes, &justfile.recipes)?;
     let ordered = in_order(unsorted, placed)?;
     let found = items_of(alloc, ordered)?;
     Ok(found)

@@ -3,7 +3,7 @@ ghost use Rattle.std.specs.Prelude.{◌≡◌, ◌++◌, map, IfOk, OnOk};
 ghost use Rattle.std.specs.List.{list_any};
 ghost use Rattle.just_recipe_run.specs.Calls.{says_private};
 ghost use Rattle.just_listings.specs.Below.{ArePublicAliasesBelow, ArePublicRecipesBelow};
-ghost use Rattle.just_listings.specs.Order.{behind};
+ghost use Rattle.just_listings.specs.Order.{referents};
 ghost use Rattle.just_listings.specs.Public.{alias_behind, aliases_shown, is_public_alias};
 
 use crate::recipes::public_recipes;
@@ -22,7 +22,7 @@ pub(crate) fn public_recipes_below<'run, 'src>(
     recipes: &'run Recipes<'src>,
     root: &Justfile<'src>,
 ) -> Result<Vec<&'run Recipe<'src>>, AllocError>
-    ensures { IfOk result (λ found. ArePublicRecipesBelow unsorted recipes.now root.now (behind found.items)) }
+    ensures { IfOk result (λ found. ArePublicRecipesBelow unsorted recipes.now root.now (referents found.items)) }
 {
     let modules = preorder(alloc, public_choice(unsorted), root)?;
     let mut found = Vec::new(alloc);
@@ -52,13 +52,13 @@ fn is_public_alias<'src>(alias: &RecipeAlias<'src>) -> bool
 // Adds the public aliases of the recipes of a module, each with the path of the module.
 fn add_aliases<'run, 'src>(
     found: &mut Vec<(&'run RecipeAlias<'src>, &'run Modulepath)>,
-    module: &'run Justfile<'src>,
+    justfile: &'run Justfile<'src>,
 ) -> Result<(), AllocError>
-    ensures { OnOk result (map alias_behind found.new.items ≡ map alias_behind found.old.items ++ aliases_shown module.now) }
+    ensures { OnOk result (map alias_behind found.new.items ≡ map alias_behind found.old.items ++ aliases_shown justfile.now) }
 {
-    for alias in module.aliases.recipes.values() {
+    for alias in justfile.aliases.recipes.values() {
         if is_public_alias(alias) {
-            found.push((alias, &module.module_path))?;
+            found.push((alias, &justfile.module_path))?;
         }
     }
     Ok(())

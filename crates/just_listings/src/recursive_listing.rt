@@ -12,7 +12,7 @@ use std::alloc::{AllocError, Global};
 pub trait RecursiveListing<'src> {
     ghost use Rattle.std.specs.Prelude.{IfOk};
     ghost use Rattle.just_listings.specs.Below.{ArePublicRecipesBelow};
-    ghost use Rattle.just_listings.specs.Order.{behind};
+    ghost use Rattle.just_listings.specs.Order.{referents};
 
     /// The module that is listed.
     ghost root: { Self → Justfile };
@@ -26,7 +26,7 @@ pub trait RecursiveListing<'src> {
         config: &Config,
         recipes: &'run Recipes<'src>,
     ) -> Result<Vec<&'run Recipe<'src>>, AllocError>
-        ensures { IfOk result (λ found. ArePublicRecipesBelow config.now.unsorted recipes.now (root self.now) (behind found.items)) };
+        ensures { IfOk result (λ found. ArePublicRecipesBelow config.now.unsorted recipes.now (root self.now) (referents found.items)) };
 }
 
 impl<'src> RecursiveListing<'src> for Justfile<'src> {

@@ -10,7 +10,7 @@ use std::alloc::Global;
 /// Modules that may have features that are not stable, as compiled ones may.
 pub trait Stability<'src> {
     ghost use Rattle.std.specs.Prelude.{IfErr, OnOk};
-    ghost use Rattle.just_listings.specs.Unstable.{AreAllAllowed, IsRefusal};
+    ghost use Rattle.just_listings.specs.Unstable.{AreAllAllowed, IsUnstableRefusal};
 
     /// The module that is checked.
     ghost checked: { Self → Justfile };
@@ -22,7 +22,7 @@ pub trait Stability<'src> {
     /// The error is `UnstableFeature`, or want of memory.
     fn check_unstable(&self, alloc: Global, config: &Config) -> Result<(), Error<'src>>
         ensures allowed { OnOk result (AreAllAllowed config.now.unstable (checked self.now)) }
-        ensures refused { IfErr result (IsRefusal config.now.unstable (checked self.now)) };
+        ensures refused { IfErr result (IsUnstableRefusal config.now.unstable (checked self.now)) };
 }
 
 impl<'src> Stability<'src> for Justfile<'src> {

@@ -1,7 +1,7 @@
 //! Modules in preorder: each before those in it.
 ghost use Rattle.std.specs.Prelude.{◌≡◌, ◌++◌, ◌∷◌, [], map, reverse, IfOk, OnOk};
 ghost use Rattle.just_justfile.specs.declared.justfile.Justfile.{out-Justfile};
-ghost use Rattle.just_listings.specs.Order.{behind};
+ghost use Rattle.just_listings.specs.Order.{referents};
 ghost use Rattle.just_listings.specs.Preorder.{AreChosen, AreInPreorder, choice_of};
 
 use crate::modules::public_modules;
@@ -33,11 +33,11 @@ pub(crate) fn public_choice(unsorted: bool) -> Choice
 // All modules of a module.
 fn all_modules<'run, 'src>(
     alloc: Global,
-    module: &'run Justfile<'src>,
+    justfile: &'run Justfile<'src>,
 ) -> Result<Vec<&'run Justfile<'src>>, AllocError>
-    ensures { IfOk result (λ modules. behind modules.items ≡ (out-Justfile module.now).modules) }
+    ensures { IfOk result (λ modules. referents modules.items ≡ (out-Justfile justfile.now).modules) }
 {
-    let modules = module.modules.as_slice();
+    let modules = justfile.modules.as_slice();
     let mut all = Vec::new(alloc);
     for inner in modules {
         all.push(inner)?;
@@ -49,14 +49,14 @@ fn all_modules<'run, 'src>(
 fn chosen_modules<'run, 'src>(
     alloc: Global,
     choice: Choice,
-    module: &'run Justfile<'src>,
+    justfile: &'run Justfile<'src>,
 ) -> Result<Vec<&'run Justfile<'src>>, AllocError>
-    ensures { IfOk result (λ modules. AreChosen choice module.now (behind modules.items)) }
+    ensures { IfOk result (λ modules. AreChosen choice justfile.now (referents modules.items)) }
 {
     match choice {
-        Choice::All => all_modules(alloc, module),
-        Choice::Public => public_modules(alloc, false, module),
-        Choice::PublicUnsorted => public_modules(alloc, true, module),
+        Choice::All => all_modules(alloc, justfile),
+        Choice::Public => public_modules(alloc, false, justfile),
+        Choice::PublicUnsorted => public_modules(alloc, true, justfile),
     }
 }
 
@@ -66,7 +66,7 @@ pub(crate) fn preorder<'run, 'src>(
     choice: Choice,
     root: &'run Justfile<'src>,
 ) -> Result<Vec<&'run Justfile<'src>>, AllocError>
-    ensures { IfOk result (λ modules. AreInPreorder choice (root.now ∷ []) (behind modules.items)) }
+    ensures { IfOk result (λ modules. AreInPreorder choice (root.now ∷ []) (referents modules.items)) }
 {
     let mut listed = Vec::new(alloc);
     let mut left = Vec::new(alloc);

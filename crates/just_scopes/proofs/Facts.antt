@@ -13,7 +13,7 @@ use Rattle.just_execution.specs.Homes.{IsRead}
 use Rattle.just_execution.specs.Leading.{LeadTo}
 use Rattle.just_execution.specs.declared.task.Task.{Task}
 use Rattle.just_execution.proofs.Homes.{All-got}
-use Rattle.just_graph.proofs.Members.{In, contained, from_map, from_reverse, in_map, is_in}
+use Rattle.just_graph.proofs.Members.{In, contained, from_reverse}
 use Rattle.just_justfile.specs.Closed.{IsPlaced, StandsIn}
 use Rattle.just_justfile.specs.Running.{CanRun, HoldsOverridden, TellsBareLines, arguments_of, known_of}
 use Rattle.just_justfile.specs.declared.justfile.Justfile.{Justfile, out-Justfile}
@@ -32,9 +32,10 @@ use Rattle.just_recipe.specs.declared.recipe.Recipe.{Recipe}
 use Rattle.just_run_layers.specs.Evaluation.{NumberSet}
 use Rattle.just_table.specs.Entries.{find}
 use Rattle.just_scopes.proofs.Needed.{found-needed, needed-some, numbers-apart, reads-some}
-use Rattle.just_scopes.proofs.Standing.{one-order, placed-stand, standing-placed}
+use Rattle.just_scopes.proofs.Standing.{one-order}
+use Rattle.just_scopes.proofs.StandingOpen.{opened-stands, stands-opened}
 use Rattle.just_scopes.specs.Need.{AreUsed, IsNeededVariable, IsToBeBound, RunsInModule, read}
-use Rattle.just_scopes.specs.Open.{AreOpenModules, IsServedBy, Whose, whose_opened, whose_placed}
+use Rattle.just_scopes.specs.Open.{AreOpenModules, IsServedBy, whose_opened, whose_placed}
 use Rattle.just_scopes.specs.Opening.{Handed, Opened}
 use Rattle.just_scopes.specs.Opens.{CanOpen, IsOpenedBy, IsSetFor, NumberOverrides, all, some, wanted_from}
 use Rattle.just_scopes.specs.Preorder.{IsPreorder, Placed}
@@ -95,24 +96,13 @@ module _ (answers : SyntaxAnswers) (root : Justfile) (recipes : List (Recipe Dep
       one-found o x y h k = cc
 
   module _ (ps : List Placed) (order : IsPreorder root ps) (opened : List Opened) (whose : map whose_opened opened ≡ map whose_placed ps) (bound : All (IsOpenedBy used handed) opened) where
-    opened-stands : (o : Opened) → Contains opened o → StandsIn root o.justfile
-    opened-stands o c =
-        let i : In (whose_opened o) (map whose_placed ps) = subst (In (whose_opened o)) whose (in_map whose_opened o opened (is_in o opened c)) in
-        let f = from_map whose_placed (whose_opened o) ps i in
-        subst (StandsIn root) (sym (ap (λ (w : Whose). w.0) f.2)) (placed-stand root ps order f.0 f.1)
-
-    -- each that stands in the root is open
-    stands-opened : (j : Justfile) → StandsIn root j → (o : Opened) × Contains opened o × (o.justfile ≡ j)
-    stands-opened j stands =
-        let p = standing-placed root ps order j stands in
-        let i : In (whose_placed p.0) (map whose_opened opened) = subst (In (whose_placed p.0)) (sym whose) (in_map whose_placed p.0 ps p.1) in
-        let f = from_map whose_opened (whose_placed p.0) opened i in
-        (f.0, contained f.0 opened f.1, sym (ap (λ (w : Whose). w.0) f.2) ∙ p.2)
+    stands : (o : Opened) → Contains opened o → StandsIn root o.justfile
+    stands = opened-stands false root ps order opened whose
 
     bound-exactly : (o : Opened) → Contains opened o → (name : Text) → IsSome (values_of o.scope name) ↔ IsToBeBound o.lazy answers recipes tops o.justfile name
     bound-exactly o c name =
         let b = All-contains (IsOpenedBy used handed) opened o bound c in
-        let w = wanted-bound (opened-stands o c) b.is_set name in
+        let w = wanted-bound (stands o c) b.is_set name in
         ((λ s. w.0 (sym (b.binds.exactly name) ∙ s)), (λ t. b.binds.exactly name ∙ w.1 t))
 
     -- what a recipe reads to which tasks lead is to be bound
@@ -127,17 +117,17 @@ module _ (answers : SyntaxAnswers) (root : Justfile) (recipes : List (Recipe Dep
         let scopes : List Scoped = scopes_of arguments_of answers (out-Justfile o.justfile).settings r in
         let runs : RunsInModule recipes tops o.justfile place r = record { led = led; there = at; path = path } in
         All-weaker (Contains scopes) (IsRead (known_of o.justfile) o.scope)
-        (λ s i. read-bound o.justfile o.lazy b.set o.scope (opened-stands o c) b.is_set b.binds s (to-bind o.lazy o.justfile place r runs s i)) scopes (All-contains_itself scopes)
+        (λ s i. read-bound o.justfile o.lazy b.set o.scope (stands o c) b.is_set b.binds s (to-bind o.lazy o.justfile place r runs s i)) scopes (All-contains_itself scopes)
 
     placed-all : (place : ℕ) (r : Recipe Dependency) → LeadTo recipes tops place → slice_get recipes place ≡ Some r → (o : Opened) × Contains opened o × (r.module_path ≡ Some (out-Justfile o.justfile).module_path)
     placed-all place r led at =
         let p = All-got (IsPlaced root) recipes place r run.rooted.placed at in
-        let o = stands-opened p.0 p.1 in
+        let o = stands-opened false root ps order opened whose p.0 p.1 in
         (o.0, o.1, p.2 ∙ ap (λ j. Some (out-Justfile j).module_path) (sym o.2))
 
     pub are-open : AreOpenModules answers root recipes tops opened
     are-open = record {
-      modules = λ qs other. whose ∙ ap (map whose_placed) (one-order root ps qs order other);
+      modules = λ qs other. whose ∙ ap (map whose_placed) (one-order false root ps qs order other);
       exactly = bound-exactly;
       placed = placed-all;
       served = served-all;

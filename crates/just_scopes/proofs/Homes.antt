@@ -38,7 +38,7 @@ module _ (path : Modulepath) where
   at-by false o x None os is more h = cc
 
   -- what is found at a path is an open module of that path
-  at-path : (os : List Opened) (x : Opened) → opened_at path os ≡ Some x → In x os × ((out-Justfile x.justfile).module_path ≡ path)
+  pub at-path : (os : List Opened) (x : Opened) → opened_at path os ≡ Some x → In x os × ((out-Justfile x.justfile).module_path ≡ path)
   at-path [] x h = cc
   at-path (o ∷ os) x h = at-by (has_path o path) o x (opened_at path os) os refl (at-path os x) h
 
@@ -52,7 +52,7 @@ module _ (path : Modulepath) where
   some-first None other s = cc
 
   -- where there is one, one is found
-  some-at : (os : List Opened) (x : Opened) → In x os → has_path x path ≡ true → IsSome (opened_at path os)
+  pub some-at : (os : List Opened) (x : Opened) → In x os → has_path x path ≡ true → IsSome (opened_at path os)
   some-at [] x i t = absurd i
   some-at (o ∷ os) x (inl e) t = some-or (has_path o path) o (opened_at path os) (ap (λ (y : Opened). has_path y path) (sym e) ∙ t)
   some-at (o ∷ os) x (inr i) t = some-first (opened_at path os) (cond (has_path o path) (Some o) None) (some-at os x i t)
@@ -65,7 +65,7 @@ first-of : (a b : Bool) → (a && b) ≡ true → a ≡ true
 first-of true b h = refl
 first-of false b h = cc
 
-own-path : (p : Modulepath) → path_eq.ghosts.eq p p ≡ true
+pub own-path : (p : Modulepath) → path_eq.ghosts.eq p p ≡ true
 own-path p = first-of (path_eq.ghosts.eq p p) _ ((key_same (p, []) (p, [])).1 refl)
 
 module _ (answers : SyntaxAnswers) (root : Justfile) (recipes : List (Recipe Dependency)) (tops : List Task) (handed : Handed) (opened : List Opened) (modules : Modules)

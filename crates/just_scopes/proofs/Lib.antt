@@ -2,11 +2,13 @@ pub mod Asking
 pub mod Facts
 pub mod Homes
 pub mod Keeping
+pub mod LazyFacts
 pub mod Needed
 pub mod OneOpened
 pub mod OwnPaths
 pub mod Preordering
 pub mod Standing
+pub mod StandingOpen
 pub mod Tables
 pub mod Turning
 pub mod Under

@@ -1,11 +1,11 @@
 -- A walk in preorder: what is listed, and what is left.
-use Rattle.std.proofs.Common.{◌≡◌, ℕ, ◌+◌, ◌<◌, Bool, false, List, [], ◌∷◌, ◌++◌, length, reverse, Some, None, refl, sym, ap, subst, ◌∙◌, arith}
+use Rattle.std.proofs.Common.{◌≡◌, ℕ, ◌+◌, ◌<◌, Bool, List, [], ◌∷◌, ◌++◌, length, reverse, Some, None, refl, sym, ap, subst, ◌∙◌, arith}
 use Rattle.std.specs.List.{sum_by}
 use Rattle.std.proofs.lemmas.List.Sums.{sum_by-append, sum_by-cons}
 use Rattle.std.proofs.lemmas.List.{append-nil, append_assoc, length-append, reverse-append}
 use Rattle.just_justfile.specs.declared.justfile.Justfile.{Justfile, out-Justfile}
 use Rattle.just_justfile.proofs.Counts.{count, count_is}
-use Rattle.just_scopes.specs.Preorder.{AreBelow, IsPreorder, Placed, inner_modules, none, one, placed_under}
+use Rattle.just_scopes.specs.Preorder.{AreBelow, IsPreorderUnder, Placed, inner_modules, none, one, placed_under}
 
 -- what is listed of those that are left, the first of which is taken next
 pub data AreLeft : ℕ → List Placed → List Placed → Type 0 where
@@ -32,29 +32,29 @@ listed start p ps rest l =
     subst (λ xs. AreLeft start (p ∷ ps) (p ∷ xs)) (sym s.2) (next s.3 s.4)
 
 -- the walk from what is listed: whatever is listed of those that are left, all is in preorder
-abbrev pub Walks : Justfile → List Placed → List Placed → Type 0
-Walks root done left = (rest : List Placed) → AreLeft (length done) (reverse left) rest → IsPreorder root (done ++ rest)
+abbrev pub Walks : Bool → Justfile → List Placed → List Placed → Type 0
+Walks above root done left = (rest : List Placed) → AreLeft (length done) (reverse left) rest → IsPreorderUnder above root (done ++ rest)
 
-alone : (root : Justfile) (rest : List Placed) → AreLeft 0 (placed_under None false root ∷ []) rest → IsPreorder root rest
-alone root _ (next {below = b} inner nothing) = (b, ap (λ xs. placed_under None false root ∷ xs) (append-nil b), inner)
+alone : (above : Bool) (root : Justfile) (rest : List Placed) → AreLeft 0 (placed_under None above root ∷ []) rest → IsPreorderUnder above root rest
+alone above root _ (next {below = b} inner nothing) = (b, ap (λ xs. placed_under None above root ∷ xs) (append-nil b), inner)
 
-pub begins : (root : Justfile) (done left : List Placed) → done ≡ [] → left ≡ placed_under None false root ∷ [] → Walks root done left
-begins root done left none_done one_left rest l =
-    let here : AreLeft 0 (placed_under None false root ∷ []) rest = subst (λ xs. AreLeft (length xs) (placed_under None false root ∷ []) rest) none_done (subst (λ xs. AreLeft (length done) (reverse xs) rest) one_left l) in
-    subst (λ xs. IsPreorder root (xs ++ rest)) (sym none_done) (alone root rest here)
+pub begins : (above : Bool) (root : Justfile) (done left : List Placed) → done ≡ [] → left ≡ placed_under None above root ∷ [] → Walks above root done left
+begins above root done left none_done one_left rest l =
+    let here : AreLeft 0 (placed_under None above root ∷ []) rest = subst (λ xs. AreLeft (length xs) (placed_under None above root ∷ []) rest) none_done (subst (λ xs. AreLeft (length done) (reverse xs) rest) one_left l) in
+    subst (λ xs. IsPreorderUnder above root (xs ++ rest)) (sym none_done) (alone above root rest here)
 
-pub walks_on : (root : Justfile) (done left front more after : List Placed) (p : Placed) → left ≡ front ++ p ∷ [] → reverse more ≡ inner_modules (length done) p.lazy (out-Justfile p.justfile).modules ++ reverse front → after ≡ done ++ p ∷ [] →
-    Walks root done left → Walks root after more
-walks_on root done left front more after p taken turned pushed walks rest l =
+pub walks_on : (above : Bool) (root : Justfile) (done left front more after : List Placed) (p : Placed) → left ≡ front ++ p ∷ [] → reverse more ≡ inner_modules (length done) p.lazy (out-Justfile p.justfile).modules ++ reverse front → after ≡ done ++ p ∷ [] →
+    Walks above root done left → Walks above root after more
+walks_on above root done left front more after p taken turned pushed walks rest l =
     let place : length after ≡ length done + 1 = ap length pushed ∙ omega (arith, length-append done (p ∷ [])) in
     let last : reverse left ≡ p ∷ reverse front = ap reverse taken ∙ reverse-append front (p ∷ []) in
     let here : AreLeft (length done) (reverse left) (p ∷ rest) = subst (λ xs. AreLeft (length done) xs (p ∷ rest)) (sym last)
     (listed (length done) p (reverse front) rest (subst (λ xs. AreLeft (length done + 1) xs rest) turned (subst (λ n. AreLeft n (reverse more) rest) place l))) in
-    subst (IsPreorder root) (sym (append_assoc done (p ∷ []) rest) ∙ ap (λ xs. xs ++ rest) (sym pushed)) (walks (p ∷ rest) here)
+    subst (IsPreorderUnder above root) (sym (append_assoc done (p ∷ []) rest) ∙ ap (λ xs. xs ++ rest) (sym pushed)) (walks (p ∷ rest) here)
 
-pub ends : (root : Justfile) (done left : List Placed) → left ≡ [] → Walks root done left → IsPreorder root done
-ends root done left none_left walks =
-    subst (IsPreorder root) (append-nil done) (walks [] (subst (λ xs. AreLeft (length done) (reverse xs) []) (sym none_left) nothing))
+pub ends : (above : Bool) (root : Justfile) (done left : List Placed) → left ≡ [] → Walks above root done left → IsPreorderUnder above root done
+ends above root done left none_left walks =
+    subst (IsPreorderUnder above root) (append-nil done) (walks [] (subst (λ xs. AreLeft (length done) (reverse xs) []) (sym none_left) nothing))
 
 abbrev pub count_all : List Placed → ℕ
 count_all ps = sum_by (λ (p : Placed). count p.justfile) ps

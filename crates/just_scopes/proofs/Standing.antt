@@ -1,12 +1,12 @@
 -- The modules in an order are those that stand in the root, and there is one such order.
-use Rattle.std.proofs.Common.{◌≡◌, ◌↔◌, ℕ, zero, suc, ◌+◌, ◌≤◌, Bool, false, List, [], ◌∷◌, ◌++◌, length, map, None, Some, refl, sym, ap, subst, ◌∙◌, inl, inr, arith}
+use Rattle.std.proofs.Common.{◌≡◌, ◌↔◌, ℕ, zero, suc, ◌+◌, ◌≤◌, Bool, List, [], ◌∷◌, ◌++◌, length, map, None, Some, refl, sym, ap, subst, ◌∙◌, inl, inr, arith}
 use Rattle.std.specs.List.{Contains, sum_by}
 use Rattle.std.proofs.lemmas.List.Sums.{sum_by-cons}
 use Rattle.just_graph.proofs.Members.{In, contained, from_map, in_cases, in_left, in_map, in_right, is_in}
 use Rattle.just_justfile.proofs.Counts.{count, count_is}
 use Rattle.just_justfile.specs.Closed.{StandsIn, inside, itself}
 use Rattle.just_justfile.specs.declared.justfile.Justfile.{Justfile, out-Justfile}
-use Rattle.just_scopes.specs.Preorder.{AreBelow, IsPreorder, Placed, is_lazy_under, none, one, placed_under}
+use Rattle.just_scopes.specs.Preorder.{AreBelow, IsPreorderUnder, Placed, is_lazy_under, none, one, placed_under}
 
 -- the modules in one that stands in the root stand there too
 stands-below : (root m n : Justfile) → StandsIn root m → Contains (out-Justfile m).modules n → StandsIn root n
@@ -40,22 +40,22 @@ standing-listed (one {parent = parent} {above = above} {j = h} {below = b} {rest
     (λ n d below. let f = standing-listed inner n j (is_in n (out-Justfile h).modules d) below in (f.0, in_left f.0 b r f.1, f.2))
 standing-listed (one {below = b} {rest = r} inner after) i j (inr c) stands = let f = standing-listed after i j c stands in (f.0, inr (in_right f.0 b r f.1), f.2)
 
-pub placed-stand : (root : Justfile) (ps : List Placed) → IsPreorder root ps → (p : Placed) → In p ps → StandsIn root p.justfile
-placed-stand root ps (below, is, rest) p i = found (subst (In p) is i)
+pub placed-stand : (above : Bool) (root : Justfile) (ps : List Placed) → IsPreorderUnder above root ps → (p : Placed) → In p ps → StandsIn root p.justfile
+placed-stand above root ps (below, is, rest) p i = found (subst (In p) is i)
   where
-    found : In p (placed_under None false root ∷ below) → StandsIn root p.justfile
+    found : In p (placed_under None above root ∷ below) → StandsIn root p.justfile
     found (inl e) = subst (λ (q : Placed). StandsIn root q.justfile) (sym e) itself
     found (inr c) = listed-stands root rest (λ n d. inside (contained n (out-Justfile root).modules d) itself) p c
 
-pub standing-placed : (root : Justfile) (ps : List Placed) → IsPreorder root ps → (j : Justfile) → StandsIn root j → IsListed ps j
-standing-placed root ps (below, is, rest) j stands =
-    let f = own-listed (placed_under None false root) below root j refl stands (λ n d within. standing-listed rest n j (is_in n (out-Justfile root).modules d) within) in
+pub standing-placed : (above : Bool) (root : Justfile) (ps : List Placed) → IsPreorderUnder above root ps → (j : Justfile) → StandsIn root j → IsListed ps j
+standing-placed above root ps (below, is, rest) j stands =
+    let f = own-listed (placed_under None above root) below root j refl stands (λ n d within. standing-listed rest n j (is_in n (out-Justfile root).modules d) within) in
     (f.0, subst (In f.0) (sym is) f.1, f.2)
 
-pub are-standing : (root j : Justfile) (ps : List Placed) → IsPreorder root ps → Contains (map (λ (p : Placed). p.justfile) ps) j ↔ StandsIn root j
-are-standing root j ps order = (
-  (λ c. let f = from_map (λ (p : Placed). p.justfile) j ps (is_in j (map (λ (p : Placed). p.justfile) ps) c) in subst (StandsIn root) (sym f.2) (placed-stand root ps order f.0 f.1)),
-  (λ s. let f = standing-placed root ps order j s in
+pub are-standing : (above : Bool) (root j : Justfile) (ps : List Placed) → IsPreorderUnder above root ps → Contains (map (λ (p : Placed). p.justfile) ps) j ↔ StandsIn root j
+are-standing above root j ps order = (
+  (λ c. let f = from_map (λ (p : Placed). p.justfile) j ps (is_in j (map (λ (p : Placed). p.justfile) ps) c) in subst (StandsIn root) (sym f.2) (placed-stand above root ps order f.0 f.1)),
+  (λ s. let f = standing-placed above root ps order j s in
       contained j (map (λ (p : Placed). p.justfile) ps) (subst (λ i. In i (map (λ (p : Placed). p.justfile) ps)) f.2 (in_map (λ (p : Placed). p.justfile) f.0 ps f.1))),
 )
 
@@ -66,8 +66,8 @@ below-one {parent = parent} {start = start} {above = above} (one {j = j} {js = j
     let rest : r ≡ s = below-one (subst (λ xs. AreBelow parent above (start + 1 + length xs) js r) same after) after_too in
     λ i. placed_under (Some parent) above j ∷ (same i ++ rest i)
 
-pub one-order : (root : Justfile) (ps qs : List Placed) → IsPreorder root ps → IsPreorder root qs → ps ≡ qs
-one-order root ps qs (b, is, below) (c, are, other) = is ∙ ap (λ xs. placed_under None false root ∷ xs) (below-one below other) ∙ sym are
+pub one-order : (above : Bool) (root : Justfile) (ps qs : List Placed) → IsPreorderUnder above root ps → IsPreorderUnder above root qs → ps ≡ qs
+one-order above root ps qs (b, is, below) (c, are, other) = is ∙ ap (λ xs. placed_under None above root ∷ xs) (below-one below other) ∙ sym are
 
 -- modules have an order, where n is as many as stand in them or more
 some-below : (n parent start : ℕ) (above : Bool) (js : List Justfile) → sum_by count js ≤ n → (ps : List Placed) × AreBelow parent above start js ps
@@ -80,8 +80,8 @@ some-below (suc n) parent start above (j ∷ js) enough =
     let after = some-below n parent (start + 1 + length inner.0) above js (omega arith) in
     (placed_under (Some parent) above j ∷ (inner.0 ++ after.0), one inner.1 after.1)
 
-pub some-order : (root : Justfile) → (ps : List Placed) × IsPreorder root ps
-some-order root =
+pub some-order : (above : Bool) (root : Justfile) → (ps : List Placed) × IsPreorderUnder above root ps
+some-order above root =
     let js = (out-Justfile root).modules in
-    let found = some-below (sum_by count js) 0 1 (is_lazy_under false root) js (omega arith) in
-    (placed_under None false root ∷ found.0, (found.0, refl, found.1))
+    let found = some-below (sum_by count js) 0 1 (is_lazy_under above root) js (omega arith) in
+    (placed_under None above root ∷ found.0, (found.0, refl, found.1))

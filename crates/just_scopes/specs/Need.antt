@@ -53,6 +53,27 @@ abbrev pub IsToBeBound : Bool → SyntaxAnswers → List (Recipe Dependency) →
 IsToBeBound true answers recipes tops j name = IsNeededVariable answers recipes tops j name
 IsToBeBound false answers recipes tops j name = IsSome (find name (out-Justfile j).assignments)
 
+-- where a search of a module begins: at what is evaluated anyhow, and at what is used
+abbrev pub is_start : (Number → Bool) → Settings → Assignment → Bool
+is_start used settings a = used a.number || is_chosen settings a
+
+pub record IsNeededAtOnce (used : Number → Bool) (j : Justfile) (name : Text) : Type 0 where
+  pub assigned : Assignment
+  pub is : find name (out-Justfile j).assignments ≡ Some assigned
+  pub starts : is_start used (out-Justfile j).settings assigned ≡ true
+
+-- What is needed of a module from some numbers: the variables that are evaluated anyhow and those of the numbers, and whatever these read, unless the analysis saw them as overridden, and so on.
+abbrev pub IsNeededFrom : (Number → Bool) → Justfile → Text → Type 0
+IsNeededFrom used j = NeedsIn j (IsNeededAtOnce used j)
+
+-- a set has the numbers of exactly that
+abbrev pub IsFound : (Number → Bool) → Justfile → (Number → Bool) → Type 0
+IsFound used j set = (n : Number) → (set n ≡ true) ↔ IsNumberIn (known_of j) (IsNeededFrom used j) n
+
+-- of each module that stands in the root, those of exactly the variables that are needed from some numbers
+abbrev pub AreNeedsFrom : (Number → Bool) → Justfile → NumberSets → Type 0
+AreNeedsFrom used root sets = (j : Justfile) → StandsIn root j → IsFound used j (sets j)
+
 -- for the private functions: the numbers that recipes have to which tasks lead
 pub record IsUsed (recipes : List (Recipe Dependency)) (tops : List Task) (n : Number) : Type 0 where
   pub place : ℕ
@@ -63,16 +84,3 @@ pub record IsUsed (recipes : List (Recipe Dependency)) (tops : List Task) (n : N
 
 abbrev pub AreUsed : List (Recipe Dependency) → List Task → (Number → Bool) → Type 0
 AreUsed recipes tops used = (n : Number) → (used n ≡ true) ↔ IsUsed recipes tops n
-
--- where a search of a module begins: at what is evaluated anyhow, and at what is used
-abbrev pub is_start : (Number → Bool) → Settings → Assignment → Bool
-is_start used settings a = used a.number || is_chosen settings a
-
-pub record IsNeededAtOnce (used : Number → Bool) (j : Justfile) (name : Text) : Type 0 where
-  pub assigned : Assignment
-  pub is : find name (out-Justfile j).assignments ≡ Some assigned
-  pub starts : is_start used (out-Justfile j).settings assigned ≡ true
-
--- a set has the numbers of exactly what is found by it
-abbrev pub IsFound : (Number → Bool) → Justfile → (Number → Bool) → Type 0
-IsFound used j set = (n : Number) → (set n ≡ true) ↔ IsNumberIn (known_of j) (NeedsIn j (IsNeededAtOnce used j)) n

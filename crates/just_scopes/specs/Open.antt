@@ -1,13 +1,15 @@
 -- What is there once the modules of a run are open.
-use Rattle.std.specs.Prelude.{◌≡◌, ◌↔◌, ◌++◌, ℕ, Bool, cond, List, [], map, Option, Some, IsSome, Result}
+use Rattle.std.specs.Prelude.{◌≡◌, ◌↔◌, ◌++◌, ℕ, Bool, true, cond, List, [], map, Option, Some, IsSome, Result}
 use Rattle.std.specs.List.{All, Contains, slice_get}
 use Rattle.just_errors.specs.declared.halt.Halt.{Halt}
 use Rattle.just_execution.specs.Homes.{IsRead}
 use Rattle.just_execution.specs.Leading.{LeadTo}
 use Rattle.just_execution.specs.declared.task.Task.{Task}
+use Rattle.just_justfile.specs.Closed.{StandsIn}
 use Rattle.just_justfile.specs.Running.{arguments_of, known_of}
 use Rattle.just_justfile.specs.declared.justfile.Justfile.{Justfile, out-Justfile}
 use Rattle.just_names.specs.Texts.{Text}
+use Rattle.just_names.specs.declared.number.Number.{Number}
 use Rattle.just_parts.specs.Evaluator.{values_of}
 use Rattle.just_parts.specs.Scopes.{scopes_of}
 use Rattle.just_parts.specs.Syntax.{SyntaxAnswers}
@@ -18,9 +20,9 @@ use Rattle.just_run_layers.specs.Host.{Answer}
 use Rattle.just_run_layers.specs.Interactions.{Log, HasTrace, both, log_of}
 use Rattle.just_run_layers.specs.declared.host.Entry.{Entry}
 use Rattle.just_run_layers.specs.declared.host.Entry.TheVariants as entry
-use Rattle.just_scopes.specs.Need.{AreNeeds, IsToBeBound, NumberSets, asked}
-use Rattle.just_scopes.specs.Opening.{Front, Handed, Opened, all_opened, folder_of}
-use Rattle.just_scopes.specs.Preorder.{IsPreorder, Placed}
+use Rattle.just_scopes.specs.Need.{AreNeeds, AreNeedsFrom, IsNeededFrom, IsToBeBound, NumberSets, asked}
+use Rattle.just_scopes.specs.Opening.{Front, Handed, Opened, all_opened, folder_of, opened_at}
+use Rattle.just_scopes.specs.Preorder.{IsPreorder, IsPreorderUnder, Placed}
 
 -- a module and whether it is lazy
 abbrev pub Whose : Type 0
@@ -49,6 +51,18 @@ pub record AreOpenModules (answers : SyntaxAnswers) (root : Justfile) (recipes :
 abbrev pub Opens : (Inquiry → Option Answer) → (Entry → Option Answer) → Front → Justfile → List (Recipe Dependency) → List Task → Log → Log → Result (List Opened) Halt → Type 0
 Opens evaluator host front root recipes tops old new result =
     (sets : NumberSets) → AreNeeds front.syntax root recipes tops sets → (ps : List Placed) → IsPreorder root ps → HasTrace (both evaluator host) (all_opened sets front.handed ps) old new result
+
+-- For every host: the steps were taken that open the modules of the root, each as a lazy one whatever it sets, by the set of what is needed from some numbers.
+abbrev pub OpensLazily : (Inquiry → Option Answer) → (Entry → Option Answer) → Handed → Justfile → (Number → Bool) → Log → Log → Result (List Opened) Halt → Type 0
+OpensLazily evaluator host handed root used old new result =
+    (sets : NumberSets) → AreNeedsFrom used root sets → (ps : List Placed) → IsPreorderUnder true root ps → HasTrace (both evaluator host) (all_opened sets handed ps) old new result
+
+-- Once they are open: they are the modules of the root, in order, each lazy; in each exactly what is needed from the numbers is bound; and each module that stands in the root is the open one of its path.
+pub record AreLazyModules (root : Justfile) (used : Number → Bool) (opened : List Opened) : Type 0 where
+  pub modules : (ps : List Placed) → IsPreorderUnder true root ps → map whose_opened opened ≡ map whose_placed ps
+  pub lazy : (o : Opened) → Contains opened o → o.lazy ≡ true
+  pub exactly : (o : Opened) → Contains opened o → (name : Text) → IsSome (values_of o.scope name) ↔ IsNeededFrom used o.justfile name
+  pub found : (j : Justfile) → StandsIn root j → (o : Opened) × (opened_at (out-Justfile j).module_path opened ≡ Some o) × (o.justfile ≡ j)
 
 -- what is kept of open modules: the host was asked for the pairs of each, where files are asked for, and the evaluator for its variables, of a lazy one for what is needed
 abbrev pub dotenv_entry : Handed → Placed → Entry

@@ -131,6 +131,10 @@ abbrev pub opened_under : Option Modulepath → List Opened → Option Opened
 opened_under None opened = None
 opened_under (Some path) opened = opened_at path opened
 
+-- the values of the open module of a path, and none where there is none
+abbrev pub scope_at : Modulepath → List Opened → Scope
+scope_at path opened = (hands (opened_at path opened)).scope
+
 -- what a run takes beside modules and words: the grammar, and what it hands to the layers
 pub record Front : Type 0 where
   pub syntax : SyntaxAnswers

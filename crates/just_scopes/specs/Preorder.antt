@@ -22,10 +22,14 @@ pub data AreBelow : ℕ → Bool → ℕ → List Justfile → List Placed → T
   one : {parent start : ℕ} {above : Bool} {j : Justfile} {js : List Justfile} {below rest : List Placed} → AreBelow start (is_lazy_under above j) (start + 1) (out-Justfile j).modules below →
       AreBelow parent above (start + 1 + length below) js rest → AreBelow parent above start (j ∷ js) (placed_under (Some parent) above j ∷ (below ++ rest))
 
--- all that stand in the root: it first, and after it those in it
+-- all that stand in the root, under a lazy module or not: it first, and after it those in it
+abbrev pub IsPreorderUnder : Bool → Justfile → List Placed → Type 0
+IsPreorderUnder above root modules =
+    (below : List Placed) × (modules ≡ placed_under None above root ∷ below) × AreBelow 0 (is_lazy_under above root) 1 (out-Justfile root).modules below
+
+-- and as they are lazy by what they set alone
 abbrev pub IsPreorder : Justfile → List Placed → Type 0
-IsPreorder root modules =
-    (below : List Placed) × (modules ≡ placed_under None false root ∷ below) × AreBelow 0 (is_lazy_under false root) 1 (out-Justfile root).modules below
+IsPreorder = IsPreorderUnder false
 
 -- for the private functions: a module as data; those that wait, the last of which is taken next; and the modules of the one at a place
 abbrev pub placed : PlacedModule → Placed

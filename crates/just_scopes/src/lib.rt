@@ -9,5 +9,5 @@ mod opening;
 mod scopes;
 mod uses;
 
-pub use opening::{OpenedModule, open_modules};
-pub use scopes::scopes_of;
+pub use opening::{OpenedModule, open_lazily, open_modules};
+pub use scopes::{scope_at, scopes_of};

@@ -1,7 +1,7 @@
 //! The modules that stand in one.
 ghost use Rattle.std.specs.Prelude.{◌≡◌, ◌++◌, map, IfOk, OnOk};
 ghost use Rattle.just_justfile.specs.declared.justfile.Justfile.{out-Justfile};
-ghost use Rattle.just_scopes.specs.Preorder.{IsPreorder, inner_modules, is_lazy_under, placed, waiting};
+ghost use Rattle.just_scopes.specs.Preorder.{IsPreorderUnder, inner_modules, is_lazy_under, placed, waiting};
 
 use just_justfile::Justfile;
 use std::alloc::{AllocError, Global};
@@ -14,7 +14,7 @@ pub struct PlacedModule<'run, 'src> {
     pub justfile: &'run Justfile<'src>,
     /// The place, which is before that of this one.
     pub parent: Option<usize>,
-    /// Whether it, or one above it, sets that variables are evaluated where they are read.
+    /// Whether it, or one above it, is to be evaluated where its variables are read alone.
     pub is_lazy: bool,
 }
 
@@ -46,18 +46,20 @@ fn add_modules<'run, 'src>(
 }
 
 /// The modules that stand in the root, itself among them: each before those in it, and these in the order of their names.
+/// Where `above` says so all are lazy, and else each that sets so, with those in it.
 pub(crate) fn modules_in<'run, 'src>(
     alloc: Global,
     root: &'run Justfile<'src>,
+    above: bool,
 ) -> Result<Vec<PlacedModule<'run, 'src>>, AllocError>
-    ensures { IfOk result (λ modules. IsPreorder root.now (map placed modules.items)) }
+    ensures { IfOk result (λ modules. IsPreorderUnder above root.now (map placed modules.items)) }
 {
     let mut modules = Vec::new(alloc);
     let mut left = Vec::new(alloc);
     left.push(PlacedModule {
         justfile: root,
         parent: None,
-        is_lazy: root.settings.lazy,
+        is_lazy: is_lazy_in(above, root),
     })?;
     while let Some(next) = left.pop() {
         add_modules(&mut left, modules.len(), &next)?;

@@ -1,6 +1,6 @@
 //! The modules of a run are opened: before the first recipe runs, each is asked for the pairs of its dotenv files and for the
 //! values of its variables.
-ghost use Rattle.std.specs.Prelude.{◌≡◌, ◌++◌, length, map, IfOk};
+ghost use Rattle.std.specs.Prelude.{◌≡◌, ◌++◌, List, length, map, IfOk};
 ghost use Rattle.std.specs.HashSet.{contains};
 ghost use Rattle.std.specs.List.{All, Contains};
 ghost use Rattle.just_execution.specs.TaskInteractions.{AsksAlone};
@@ -9,10 +9,13 @@ ghost use Rattle.just_justfile.specs.Running.{CanRun, HoldsOverridden, TellsBare
 ghost use Rattle.just_justfile.specs.declared.justfile.Justfile.{out-Justfile};
 ghost use Rattle.just_parts.specs.Evaluator.{Binds};
 ghost use Rattle.just_parts.specs.Needs.{HaveNumbersApart, IsClosed, has_number, same_number};
+ghost use Rattle.just_parts.specs.Syntax.{SyntaxAnswers};
+ghost use Rattle.just_recipe.specs.declared.dependency.Dependency.{Dependency};
+ghost use Rattle.just_recipe.specs.declared.recipe.Recipe.{Recipe};
 ghost use Rattle.just_run_layers.specs.Evaluation.{config_contents, in_set, set_of};
 ghost use Rattle.just_run_layers.specs.Host.{KeepsPromises, executed};
 ghost use Rattle.just_run_layers.specs.Interactions.{log_of};
-ghost use Rattle.just_scopes.specs.Open.{AreOpenModules, Opens, whose_opened, whose_placed};
+ghost use Rattle.just_scopes.specs.Open.{AreLazyModules, AreOpenModules, Opens, OpensLazily, whose_opened, whose_placed};
 ghost use Rattle.just_scopes.specs.Opening.{around, dotenv_steps, folder_of, front_of, handed_of, opened_as, opened_in, opened_of, scope_steps};
 ghost use Rattle.just_scopes.specs.Opens.{AsksHostAlone, CanOpen, IsOpenedBy, IsSetFor, OpensAll, OpensOne, around_as, set_in, wanted_from};
 ghost use Rattle.just_scopes.specs.Preorder.{placed};
@@ -321,12 +324,50 @@ pub fn open_modules<'run, 'src, S: Syntax, E: Evaluation, H: Host>(
     ensures open { IfOk result (λ os. AreOpenModules (S.answers syntax.now) root.now recipes.now tops.now (map opened_of os.items)) }
 {
     let used = used_numbers(alloc, recipes, tops)?;
-    let modules = modules_in(alloc, root)?;
+    let modules = modules_in(alloc, root, false)?;
     open_all(
         alloc,
         config,
         overrides,
         &used,
+        modules.as_slice(),
+        evaluation,
+        host,
+    )
+}
+
+/// Opens the modules that stand in the root, as `open_modules` does, but each as a lazy one, whatever its settings say. Of
+/// each exactly those variables are evaluated that are eager, exported or among the numbers, and whatever these read. Nothing
+/// runs. The first fault ends it: `Dotenv` of the host, `Evaluate` of the evaluation.
+///
+/// What compiling answers can run, and its overrides have all that the analysis saw.
+pub fn open_lazily<'run, 'src, E: Evaluation, H: Host>(
+    alloc: Global,
+    config: &Config,
+    root: &'run Justfile<'src>,
+    overrides: &HashMap<Number, Text>,
+    numbers: &HashSet<Number>,
+    evaluation: &mut E,
+    host: &mut H,
+) -> Result<Vec<OpenedModule<'run, 'src>>, Halt<'src>>
+    requires can_run { (answers : SyntaxAnswers) × (recipes : List (Recipe Dependency)) × CanRun answers root.now recipes }
+    requires overridden { HoldsOverridden root.now overrides.now }
+    ensures keeps { KeepsPromises (E.promised evaluation.old) (E.promised evaluation.new) }
+    ensures keeps_host { KeepsPromises (H.promised host.old) (H.promised host.new) }
+    ensures nothing_runs { executed (H.entries host.new) ≡ executed (H.entries host.old) }
+    ensures took { let first = log_of (H.entries host.old) (E.requests evaluation.old) in
+        let last = log_of (H.entries host.new) (E.requests evaluation.new) in
+        let handed = handed_of config.now overrides.now in
+        let opens = OpensLazily (E.promised evaluation.old) (H.promised host.old) handed root.now (contains same_number numbers.now) in
+        opens first last (opened_in result) }
+    ensures open { IfOk result (λ os. AreLazyModules root.now (contains same_number numbers.now) (map opened_of os.items)) }
+{
+    let modules = modules_in(alloc, root, true)?;
+    open_all(
+        alloc,
+        config,
+        overrides,
+        numbers,
         modules.as_slice(),
         evaluation,
         host,

@@ -3,14 +3,14 @@ ghost use Rattle.std.specs.Prelude.{◌≡◌, map, IfOk};
 ghost use Rattle.just_execution.specs.Homes.{AllHaveModuleScope};
 ghost use Rattle.just_execution.specs.Scene.{scene_in};
 ghost use Rattle.just_scopes.specs.Open.{AreOpenModules};
-ghost use Rattle.just_scopes.specs.Opening.{front_of, handed_of, opened_of, scene_of};
+ghost use Rattle.just_scopes.specs.Opening.{front_of, handed_of, opened_of, scene_of, scope_at};
 ghost use Rattle.just_scopes.specs.Scoped.{AreModulesOf};
 
 use crate::context::context_of;
 use crate::opening::OpenedModule;
-use just_data::Text;
+use just_data::{Chain, Text};
 use just_execution::{ModuleScope, Scopes};
-use just_parts::layers::{Config, Number, Syntax};
+use just_parts::layers::{Config, Number, Scope, Syntax};
 use just_paths::Modulepath;
 use std::alloc::{AllocError, Global};
 use std::collections::HashMap;
@@ -57,4 +57,19 @@ pub fn scopes_of<'run, 'src, S: Syntax>(
         no_dependencies: config.no_dependencies,
         modules: modules_of(alloc, config, overrides, opened)?,
     })
+}
+
+/// The values of the open module of a path, and none where there is none.
+pub fn scope_at<'src>(opened: Vec<OpenedModule<'_, 'src>>, path: &Modulepath) -> Scope<'src>
+    ensures { result ≡ scope_at path.now (map opened_of opened.entry.items) }
+{
+    let mut scope = Scope {
+        bindings: Chain::new(),
+    };
+    for module in opened {
+        if module.justfile.module_path == *path {
+            scope = module.scope;
+        }
+    }
+    scope
 }

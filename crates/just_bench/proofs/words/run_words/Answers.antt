@@ -19,11 +19,11 @@ run-requires-clause-can_run c =
     subst can (sym c.new-syntax.ensures) c.requires.can_run
 
 pub returns-in_err-writer : goal.returns-in_err-writer
-returns-in_err-writer c = ([], refused Memory (search rules) memory refl)
+returns-in_err-writer c = λ runs. ([], refused Memory (search rules) memory refl)
 
 pub returns : goal.returns
-returns c =
+returns c = λ runs.
     let asked = map request_of c.run.new.evaluation.asked.items in
     let ran : List (Keyword × Keyword) → List ScopeRequest → Type 0 = λ pairs requests.
     IsOutcome plain_counts c.args.root.now c.args.recipes.now (texts c.args.words.now) c.args.config.now (front_of (answers pairs) c.args.config.now c.args.overrides.now) (λ inquiry. Some (plain_answer inquiry)) (script_promises c.args.host.now.script) (log_of c.args.host.now.entries requests) (log_of c.run.new.host.entries asked) c.run.result in
-    (asked, subst (ran []) c.new-evaluation.ensures (subst (λ pairs. ran pairs (map request_of c.new-evaluation.result.asked.items)) c.new-syntax.ensures c.run.ensures.outcome))
+    (asked, subst (ran []) c.new-evaluation.ensures (subst (λ pairs. ran pairs (map request_of c.new-evaluation.result.asked.items)) c.new-syntax.ensures (c.run.ensures.outcome runs)))

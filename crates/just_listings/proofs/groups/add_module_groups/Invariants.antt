@@ -7,4 +7,4 @@ use Rattle.just_listings.proofs.groups.add_module_groups.Given as goal
 
 abbrev pub invariant-loop-group : goal.invariant-loop-group
 invariant-loop-group l =
-    l.groups.items ≡ l.initial.groups.items ++ all_at (module_place l.«module») (map (λ (group : StringLiteral). group.cooked) (take l.group-index (out-Justfile l.«module»).groups))
+    l.groups.items ≡ l.initial.groups.items ++ all_at (module_place l.justfile) (map (λ (group : StringLiteral). group.cooked) (take l.group-index (out-Justfile l.justfile).groups))

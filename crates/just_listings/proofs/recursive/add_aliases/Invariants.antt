@@ -11,4 +11,4 @@ abbrev pub invariant-loop-alias : goal.invariant-loop-alias
 invariant-loop-alias l =
     map alias_behind l.found.items
     ≡ map alias_behind l.initial.found.items
-    ++ map {B = Alias Number × Modulepath} (λ alias. (alias, (out-Justfile l.«module»).module_path)) (filter is_public_alias (map (λ alias. alias.now) l.yielded))
+    ++ map {B = Alias Number × Modulepath} (λ alias. (alias, (out-Justfile l.justfile).module_path)) (filter is_public_alias (map (λ alias. alias.now) l.yielded))

@@ -6,20 +6,20 @@ use Rattle.std.proofs.lemmas.Result.{IfErr-weaker}
 use Rattle.just_errors.specs.declared.error.Error.{Error}
 use Rattle.just_errors.specs.declared.error.Error.TheVariants.{Memory}
 use Rattle.just_justfile.specs.declared.justfile.Justfile.{Justfile}
-use Rattle.just_listings.specs.Order.{behind}
-use Rattle.just_listings.specs.Unstable.{IsRefusal, no_memory, refused}
+use Rattle.just_listings.specs.Order.{referents}
+use Rattle.just_listings.specs.Unstable.{IsUnstableRefusal, no_memory, refused}
 use Rattle.just_listings.proofs.Refusing.{IsAllowed, allowed_more, refuses}
 use Rattle.just_listings.proofs.unstable.check_unstable.Goals as goal
 
 pub returns-in_err-modules-clause-refused : goal.returns-in_err-modules-clause-refused
 returns-in_err-modules-clause-refused c =
     let told : IfErr c.from_residual.result (λ e. e ≡ Memory) = search rules in
-    IfErr-weaker c.from_residual.result (λ e. e ≡ Memory) (IsRefusal c.args.allowed c.args.root.now) (λ e same. subst (IsRefusal c.args.allowed c.args.root.now) (sym same) no_memory) told
+    IfErr-weaker c.from_residual.result (λ e. e ≡ Memory) (IsUnstableRefusal c.args.allowed c.args.root.now) (λ e same. subst (IsUnstableRefusal c.args.allowed c.args.root.now) (sym same) no_memory) told
 
 pub returns-in_err-feature-clause-refused : goal.returns-in_err-feature-clause-refused
 returns-in_err-feature-clause-refused c =
     let told : IfErr c.from_residual-in_err-feature.result (λ e. e ≡ Memory) = search rules in
-    IfErr-weaker c.from_residual-in_err-feature.result (λ e. e ≡ Memory) (IsRefusal c.args.allowed c.args.root.now) (λ e same. subst (IsRefusal c.args.allowed c.args.root.now) (sym same) no_memory) told
+    IfErr-weaker c.from_residual-in_err-feature.result (λ e. e ≡ Memory) (IsUnstableRefusal c.args.allowed c.args.root.now) (λ e same. subst (IsUnstableRefusal c.args.allowed c.args.root.now) (sym same) no_memory) told
 
 pub returns-in-Some-clause-refused : goal.returns-in-Some-clause-refused
 returns-in-Some-clause-refused c =
@@ -40,7 +40,7 @@ returns-clause-allowed c =
     let items = c.in_ok-modules.modules.items in
     let through : length items ≤ c.loop-at.at = subst (λ n. n ≤ c.loop-at.at) (c.len-at-end.ensures ∙ c.in_ok-modules.modules.ok.0) c.loop-at-test.false in
     record {
-      modules = behind items;
+      modules = referents items;
       walked = c.in_ok-modules.ensures;
-      none = subst (λ (ms : List (Bor Justfile)). All (IsAllowed c.args.allowed) (behind ms)) (take_all c.loop-at.at items through) c.loop-at.invariant;
+      none = subst (λ (ms : List (Bor Justfile)). All (IsAllowed c.args.allowed) (referents ms)) (take_all c.loop-at.at items through) c.loop-at.invariant;
     }

@@ -6,7 +6,7 @@ use Rattle.just_scopes.proofs.Preordering.{begins, walks_on, ends, fewer}
 use Rattle.just_scopes.proofs.modules.modules_in.Goals as goal
 
 pub loop-next-init : goal.loop-next-init
-loop-next-init c = begins c.args.root.now (map placed c.new-modules.result.items) (map placed c.push.new.self.items) (search rules) (search rules)
+loop-next-init c = begins c.args.above c.args.root.now (map placed c.new-modules.result.items) (map placed c.push.new.self.items) (search rules) (search rules)
 
 pub loop-next-smaller : goal.loop-next-smaller
 loop-next-smaller c =
@@ -22,8 +22,8 @@ loop-next-preserved c =
     let added : waiting c.add_modules.new.left.items ≡ inner_modules (length (map placed c.loop-next.modules.items)) c.in-Some.next.is_lazy (out-Justfile c.in-Some.next.justfile.now).modules ++ waiting front =
     c.in_ok-add_modules.ensures ∙ ap (λ n. inner_modules n c.in-Some.next.is_lazy (out-Justfile c.in-Some.next.justfile.now).modules ++ waiting front) count in
     let pushed : c.push-in-Some.new.self.items ≡ c.loop-next.modules.items ++ c.in-Some.next ∷ [] = search rules in
-    walks_on c.args.root.now (map placed c.loop-next.modules.items) (map placed c.loop-next.left.items) (map placed front) (map placed c.add_modules.new.left.items) (map placed c.push-in-Some.new.self.items) (placed c.in-Some.next)
+    walks_on c.args.above c.args.root.now (map placed c.loop-next.modules.items) (map placed c.loop-next.left.items) (map placed front) (map placed c.add_modules.new.left.items) (map placed c.push-in-Some.new.self.items) (placed c.in-Some.next)
     (ap (map placed) c.in-Some.ensures.items ∙ map-append placed front (c.in-Some.next ∷ [])) added (ap (map placed) pushed ∙ map-append placed c.loop-next.modules.items (c.in-Some.next ∷ [])) c.loop-next.invariant
 
 pub returns : goal.returns
-returns c = ends c.args.root.now (map placed c.loop-next.modules.items) (map placed c.loop-next.left.items) (search rules) c.loop-next.invariant
+returns c = ends c.args.above c.args.root.now (map placed c.loop-next.modules.items) (map placed c.loop-next.left.items) (search rules) c.loop-next.invariant

@@ -124,6 +124,7 @@ returns g c =
           let held = held_meant evaluator values w asts paths loaded c.in_ok-justfile.justfile c.in_ok-justfile.recipes made.overridden analyzed j n stands has in
           ap is_some (put_onto _ _ _ _ _ (search rules) (made.added n) (c.in_ok-apply_overrides.ensures.applied.1 n)
           ∙ (by_keys _ _ (is_meant evaluator values w asts paths loaded c.in_ok-justfile.justfile c.in_ok-justfile.recipes made.overridden analyzed n) ∙ held.1));
+      modules_ordered = is_ordered analyzed.closed;
       root = c.in_ok-path.ensures;
       root_ast = subst (λ r. IsSome (asts (root_ast_key r))) (sym c.in_ok-path.ensures) (subst (λ o. IsSome o) (sym (root_held w asts loaded c.in_ok-asts.ensures.loaded).1) refl);
       named = tt;

@@ -1,0 +1,11 @@
+use Rattle.std.proofs.Common.{ap}
+use Rattle.just_run_layers.specs.Host.{answered, changed}
+use Rattle.just_bench_failing.proofs.Promises.{answers-until, keeps-until}
+use Rattle.just_bench_failing.proofs.failing_evaluation.FailingEvaluationEvaluation.environment.Goals as goal
+
+pub returns-clause-answers : goal.returns-clause-answers
+returns-clause-answers g c =
+    answers-until c.args.self.now.failure.fault (g.E.Evaluation.promised c.args.self.now.evaluation) _ _ _ (λ over. ap (answered changed) (c.instead.ensures.kept over)) c.environment-answer.ensures.answers
+
+pub returns-clause-keeps : goal.returns-clause-keeps
+returns-clause-keeps g c = keeps-until c.args.self.now.failure.fault (g.E.Evaluation.promised c.args.self.now.evaluation) _ _ c.instead.ensures.counted.spent c.environment-answer.ensures.keeps

@@ -1,0 +1,5 @@
+pub mod Bound
+pub mod Ordered
+pub mod Spelling
+pub mod Standing
+pub mod Widths
