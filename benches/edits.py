@@ -7,7 +7,8 @@
 They are edits as those in the folders must-fail, which the gate tries. These take as long as the whole gate, so they
 are tried by hand, after a change of what they edit. With --quick a try takes half a minute where the crates below are
 proved in the work tree; what it edits is put back, also after an interrupt. An edit that is not refused so may still be
-by a function that calls the edited one: such a one is told as open, and is to be tried whole.
+by a function that calls the edited one: such a one is told as open, and is to be tried whole. So is one whose only
+errors are names that a proof file has no more.
 """
 import re
 import shutil
@@ -19,7 +20,7 @@ from pathlib import Path
 TOP = Path(__file__).resolve().parent.parent
 EDITS = TOP / "benches" / "edits"
 REFUSED = re.compile(r"^(?:fn|impl) \S+: (?:not proved|no proof)|logic=not-proved", re.MULTILINE)
-TOLD = re.compile(r"^note: src/|^src/\S+: error", re.MULTILINE)
+TOLD = re.compile(r"^note: src/|^src/\S+: error|^\./proofs/\S+: error(?!.*(?:can be named from here|\(nearest: ))", re.MULTILINE)
 
 
 def copy_of_tree(room):
@@ -59,6 +60,15 @@ def read_edit(edit, folder):
     return texts, list(functions)
 
 
+def check(name, folder):
+    """What a check of a function says; of several under one name, what those of each say."""
+    ran = subprocess.run(["rt", "check", "--only", name], cwd=folder, capture_output=True, text=True)
+    said = ran.stdout + ran.stderr
+    if "several functions are named" in said:
+        return "".join(check(path, folder) for path in re.findall(r"`(\w+(?:::\w+)+)`", said))
+    return said
+
+
 def try_function(edit, folder):
     """What a check of the functions comes to that an edit changes, with the first line that tells why."""
     texts, functions = read_edit(edit, folder)
@@ -67,8 +77,7 @@ def try_function(edit, folder):
         for file, text in texts.items():
             file.write_text(text)
         for name in functions:
-            ran = subprocess.run(["rt", "check", "--only", name], cwd=folder, capture_output=True, text=True)
-            said = ran.stdout + ran.stderr
+            said = check(name, folder)
             if REFUSED.search(said):
                 why = next((line for line in said.splitlines() if TOLD.search(line)), "")
                 return "refused" if why else "open: refused by a proof file alone", why

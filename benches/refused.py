@@ -20,6 +20,23 @@ CASES = [
         "--- /justfile\nimport 'x'\nmod m\na: b\n--- /x\nb:\n--- /m.just\nmod n 'x'\nc:\n",
         ["/justfile", "a"],
     ),
+    (
+        "modules inside each other with aliases",
+        "--- /justfile\nmod m\nalias k := m\nalias r := m::n::c\n"
+        "--- /m.just\nmod n\nalias d := n::c\n--- /n.just\nc:\n  1\n",
+        ["/justfile", "k", "d", "r"],
+    ),
+    (
+        "dependencies with arguments",
+        "--- /justfile\nv := '1'\na: (b 'x') (b v 'y') && (b 'x')\nb p q='2':\n  {{p}} {{q}}\n",
+        ["/justfile", "a"],
+    ),
+    ("a parameter stands twice", "--- /justfile\na x x:\n", ["/justfile", "a"]),
+    (
+        "imports in a circle",
+        "--- /justfile\nimport 'x'\na:\n--- /x\nimport 'y'\n--- /y\nimport 'x'\n",
+        ["/justfile", "a"],
+    ),
     ("a rule is broken", "--- /justfile\na: b\nb: a\n", ["/justfile", "a"]),
     ("words are refused", "--- /justfile\np x:\n", ["/justfile", "p"]),
 ]
