@@ -11,7 +11,8 @@ pub use Rattle.just_loader.specs.ModuleFile.{module_files}
 pub use Rattle.just_loader.specs.Reached.{world_of}
 pub use Rattle.just_justfile.specs.Closed.{AreClosed, IsClosedModule, IsHeld, IsRooted, is_ordered}
 pub use Rattle.just_invoke.specs.Cause.{IsOfWords, cause_of}
-pub use Rattle.just_invoke.specs.Evaluation.{AsksForValues, IsEvaluation, IsEvaluationAsExpected, RunsRecipes, writer_of}
+pub use Rattle.just_invoke.specs.Command.{AsksForProgram, IsProgramRun, IsProgramRunAsExpected}
+pub use Rattle.just_invoke.specs.Evaluation.{AsksForValues, IsEvaluation, IsEvaluationAsExpected, RunsRecipes, WritesNothing, writer_of}
 pub use Rattle.just_invoke.specs.Outcome.{RunsAsExpected, IsOutcome}
 pub use Rattle.just_invoke.specs.Split.{HasWordsFault, IsSplit, invoked_of}
 pub use Rattle.just_justfile.specs.Running.{CanRun, HoldsOverridden, TellsBareLines}

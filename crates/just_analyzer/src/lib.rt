@@ -37,12 +37,12 @@ pub mod layers {
         FunctionParameter, Given, Halt, Interpreter, InvocationError, Item, Keyword, Line,
         ListFeature, ListUse, LoadError, Name, NamedAttribute, Namepath, Number, Numerator, Output,
         Parameter, ParameterKind, Pattern, Refusal, RunError, Scope, Set, Setting, Settings, Shape,
-        Shebang, Sigil, Signal, SourceError, StringLiteral, Subcommand, Switch, Syntax, Token,
-        UnresolvedDependency, UnstableFeature, Verbosity, Warning, WriteFailed, joined,
+        Shebang, Sigil, Signal, SourceError, Status, StringLiteral, Subcommand, Switch, Syntax,
+        Token, UnresolvedDependency, UnstableFeature, Verbosity, Warning, WriteFailed, joined,
     };
     pub use just_run_layers::{
         CommandCall, Context, Entry, EnvironmentChange, EnvironmentPair, Evaluation, Executor,
-        Groups, Held, Host, Positional, RunAnswer, ScriptCall, ShellCall, Status,
+        Groups, Held, Host, Positional, RunAnswer, ScriptCall, ShellCall,
     };
 }
 

@@ -4,7 +4,7 @@ use Rattle.just_errors.specs.declared.fault.Fault.{Fault}
 use Rattle.just_run_layers.specs.declared.host.Entry.{Entry}
 use Rattle.just_run_layers.specs.declared.host.Entry.TheVariants as entry
 use Rattle.just_run_layers.specs.declared.run_answer.RunAnswer.{RunAnswer}
-use Rattle.just_run_layers.specs.declared.run_answer.Status.TheVariants as status
+use Rattle.just_errors.specs.declared.status.Status.TheVariants as status
 use Rattle.just_run_layers.specs.Host.{Answer, Done, Ran, Refused, given, paired}
 use Rattle.just_bench.specs.declared.script.Script.{Script}
 use Rattle.just_bench.specs.Queue.{left_of, next_or}

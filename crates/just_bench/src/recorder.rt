@@ -7,10 +7,10 @@ ghost use Rattle.just_bench.specs.Script.{unscripted};
 
 use crate::script::Script;
 use just_data::{Sequence, Text};
-use just_errors::Refusal;
+use just_errors::{Refusal, Status};
 use just_paths::Modulepath;
 use just_run_layers::{
-    CommandCall, Entry, EnvironmentPair, Groups, Host, RunAnswer, ScriptCall, ShellCall, Status,
+    CommandCall, Entry, EnvironmentPair, Groups, Host, RunAnswer, ScriptCall, ShellCall,
 };
 use std::alloc::{AllocError, Global};
 use std::marker::Model;

@@ -8,7 +8,7 @@ use Rattle.std.proofs.lemmas.List.{get_or_default}
 use Rattle.just_graph.proofs.Members.{In, contained, from_map, in_map, is_in}
 use Rattle.just_justfile.specs.Module.{module_name}
 use Rattle.just_justfile.specs.Walks as walks
-use Rattle.just_justfile.specs.Walks.{End, end_of, module_named, only, path_along, recipe_at as found_at, recipe_by}
+use Rattle.just_justfile.specs.Walks.{End, end_of_names, module_named, only, path_along, recipe_under as found_at, recipe_by}
 use Rattle.just_justfile.specs.declared.disabled.Disabled.{Disabled}
 use Rattle.just_justfile.specs.declared.justfile.Justfile.{Justfile, out-Justfile}
 use Rattle.just_justfile.specs.declared.justfile.RecipeKey.{RecipeKey}
@@ -35,7 +35,7 @@ use Rattle.just_recipe.specs.declared.dependency.Dependency.{Dependency}
 use Rattle.just_recipe.specs.declared.dependency.UnresolvedDependency.{UnresolvedDependency}
 use Rattle.just_recipe.specs.declared.recipe.Recipe.{Recipe}
 use Rattle.just_table.specs.Entries.{find, put_all}
-use Rattle.just_compiled.specs.Analysis.{key_of, name_of_key}
+use Rattle.just_compiled.specs.Analysis.{recipe_key_of, name_of_key}
 use Rattle.just_compiled.specs.Justfiles.{AreCompiled, Built, IsCompiled, Made, kept_by, none, notes_said, one, recipes_of_all}
 use Rattle.just_compiled.specs.Labelled.{by_name}
 use Rattle.just_compiled.proofs.NamedModules.{absent_told, found_sorted}
@@ -120,9 +120,9 @@ module _ (given : Given) (asts : AstKey → Option Ast) (loaded : List Text) (bu
   agree_cond false names = both_nowhere
 
   agree_found : (xs : List Text) (x : Text) (own : List Text) (absent : List (Text × Text)) → is_some (find x absent) ≡ list_any (λ a. bytes_eq a x) own → {o : Option (Module × Forest)} {q : Option Justfile} → FoundAs o q
-      → ((n : Module) (below : Forest) (c : Justfile) → Shows n below c → Agree (trees.beyond x (follow xs n below)) (walks.beyond x c (end_of (out-Justfile c).absent_modules (out-Justfile c).modules xs)))
+      → ((n : Module) (below : Forest) (c : Justfile) → Shows n below c → Agree (trees.beyond x (follow xs n below)) (walks.beyond x c (end_of_names (out-Justfile c).absent_modules (out-Justfile c).modules xs)))
       → Agree (elim o as (λ _. WalkEnd) [ Some n ↦ trees.beyond x (follow xs n.0 n.1) | None ↦ if list_any (λ a. bytes_eq a x) own then trees.Missing (x ∷ []) else trees.Nowhere ])
-      (elim q as (λ _. End) [ Some j ↦ walks.beyond x j (end_of (out-Justfile j).absent_modules (out-Justfile j).modules xs) | None ↦ if is_some (find x absent) then walks.Absent (x ∷ []) else walks.Nowhere ])
+      (elim q as (λ _. End) [ Some j ↦ walks.beyond x j (end_of_names (out-Justfile j).absent_modules (out-Justfile j).modules xs) | None ↦ if is_some (find x absent) then walks.Absent (x ∷ []) else walks.Nowhere ])
   agree_found xs x own absent e (both {n} {below} {c} shows) next = next n below c shows
   agree_found xs x own absent e neither next =
       subst (λ b. Agree (cond (list_any (λ a. bytes_eq a x) own) (trees.Missing (x ∷ [])) trees.Nowhere) (cond b (walks.Absent (x ∷ [])) walks.Nowhere)) (sym e) (agree_cond (list_any (λ a. bytes_eq a x) own) (x ∷ []))
@@ -132,7 +132,7 @@ module _ (given : Given) (asts : AstKey → Option Ast) (loaded : List Text) (bu
   has_absent n below c shows = absent_noted given asts n (out-Justfile c).absent_modules shows.says (ap (λ notes. notes.absent_modules) shows.is.notes)
 
   pub agree : (xs : List Text) (x : Text) (m : Module) (inside : Forest) (absent : List (Text × Text)) (modules js : List Justfile) → HasAbsent absent m → ((name : Text) → module_named name modules ≡ module_named name js)
-      → AreCompiled given asts loaded built inside js → SayAll given asts inside → Agree (follow (x ∷ xs) m inside) (end_of absent modules (x ∷ xs))
+      → AreCompiled given asts loaded built inside js → SayAll given asts inside → Agree (follow (x ∷ xs) m inside) (end_of_names absent modules (x ∷ xs))
   agree [] x m inside absent modules js exact named compiled says =
       agree_found [] x (absent_in m) absent (exact x) (subst (FoundAs (find_inner x inside)) (sym (named x)) (found x compiled says)) (λ n below c shows. both_inside shows)
   agree (y ∷ ys) x m inside absent modules js exact named compiled says =
@@ -227,7 +227,7 @@ module _ (given : Given) (asts : AstKey → Option Ast) (loaded : List Text) (bu
       let r = from_map name_of last (kept_by given asts n) (is_in last (names_of (kept_by given asts n)) (subst (λ ns. Contains ns last) (sym (same_names (kept_by given asts n) (kept_in n) shows.says.kept)) ends)) in
       elim (disabled_or (DisabledBy n below) is.disabled.1 r.0 r.1) [
         | inl stands ↦
-            not_found name_of_key last [] (map key_of is.standing) (ap (find last) (sym is.fields.recipes_are) ∙ f) (key_of r.0) (in_map key_of r.0 is.standing (into_standing (StandsInTree n below) is.stand r.0 r.1 stands)) (sym r.2)
+            not_found name_of_key last [] (map recipe_key_of is.standing) (ap (find last) (sym is.fields.recipes_are) ∙ f) (recipe_key_of r.0) (in_map recipe_key_of r.0 is.standing (into_standing (StandsInTree n below) is.stand r.0 r.1 stands)) (sym r.2)
         | inr d ↦ not_found name_of_disabled last [] is.disabled.0 (ap (find last) (sym is.disabled.2) ∙ g) d.0 d.1 (d.2 ∙ sym r.2)
       ]
 
@@ -247,7 +247,7 @@ module _ (given : Given) (asts : AstKey → Option Ast) (loaded : List Text) (bu
   resolves both_nowhere last = λ h. h
 
   module _ (m : Module) (inside : Forest) (it : Around) (meets : Meets m inside it) where
-    front_cases : (front : List Name) (last : Text) → (front ≡ []) ⊎ Resolves (follow (map text_of_name front) m inside) last (recipe_by (end_of it.absent it.modules (map text_of_name front)) [] [] last)
+    front_cases : (front : List Name) (last : Text) → (front ≡ []) ⊎ Resolves (follow (map text_of_name front) m inside) last (recipe_by (end_of_names it.absent it.modules (map text_of_name front)) [] [] last)
     front_cases [] last = inl refl
     front_cases (x ∷ xs) last =
         inr (resolves (agree (map text_of_name xs) (text_of_name x) m inside it.absent it.modules meets.inner meets.absent (λ name. ap (module_named name) meets.modules ∙ found_sorted name meets.inner meets.different) meets.compiled meets.inner_says) last)

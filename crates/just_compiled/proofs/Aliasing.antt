@@ -7,13 +7,13 @@ use Rattle.just_graph.proofs.Members.{In, from_flat}
 use Rattle.just_ast_definitions.specs.declared.alias.Alias.{Alias}
 use Rattle.just_justfile.specs.Closed.{IsPathIn}
 use Rattle.just_justfile.specs.Walks as walks
-use Rattle.just_justfile.specs.Walks.{End, end_of, module_named, recipe_by, recipe_from}
+use Rattle.just_justfile.specs.Walks.{End, end_of_names, module_named, recipe_by, recipe_from}
 use Rattle.just_justfile.specs.declared.aliases.Aliases.{Aliases}
 use Rattle.just_justfile.specs.declared.justfile.Justfile.{Justfile, out-Justfile}
 use Rattle.just_justfile.specs.declared.resolution.Resolution.{Resolution}
 use Rattle.just_justfile.specs.declared.resolution.Resolution.TheVariants as resolution
 use Rattle.just_justfile.proofs.Leading.{stands_along, walk_along}
-use Rattle.just_module_recipes.specs.Aliased.{Targets, aliases_onto, as_module_alias, as_recipe, as_recipe_alias, meant, modules_among, name_of_alias, recipes_among, targets_of, with_meaning}
+use Rattle.just_module_recipes.specs.Aliased.{Targets, aliases_onto, as_module_alias, as_recipe, as_recipe_alias, alias_meant, modules_among, name_of_alias, recipes_among, targets_of, with_meaning}
 use Rattle.just_module_recipes.specs.declared.aliases.Meaning.{Meaning}
 use Rattle.just_module_recipes.specs.declared.aliases.Meaning.TheVariants as meaning
 use Rattle.just_module_recipes.proofs.Aliasing.{one_added}
@@ -63,12 +63,12 @@ still_missing (x ∷ front) last m inside names e = go (λ n. still_missing fron
     go inner absent None e = e
 
 -- aliases that mean something are in the tables of their meanings
-pub all_aliased : (t : Targets) (Means : Namepath → Meaning → Type 0) → ((path : Namepath) (it : Meaning) → meant t path ≡ Some it → Means path it)
-    → (aliases : List (Alias Namepath)) (before : Aliases) → ((alias : Alias Namepath) → In alias aliases → meant t alias.target ≢ None) → AddAliases Means before aliases (aliases_onto t before aliases)
+pub all_aliased : (t : Targets) (Means : Namepath → Meaning → Type 0) → ((path : Namepath) (it : Meaning) → alias_meant t path ≡ Some it → Means path it)
+    → (aliases : List (Alias Namepath)) (before : Aliases) → ((alias : Alias Namepath) → In alias aliases → alias_meant t alias.target ≢ None) → AddAliases Means before aliases (aliases_onto t before aliases)
 all_aliased t Means means [] before some = no_more
-all_aliased t Means means (alias ∷ aliases) before some = go (λ after. all_aliased t Means means aliases after (λ other i. some other (inr i))) (meant t alias.target) refl
+all_aliased t Means means (alias ∷ aliases) before some = go (λ after. all_aliased t Means means aliases after (λ other i. some other (inr i))) (alias_meant t alias.target) refl
   where
-    go : ((after : Aliases) → AddAliases Means after aliases (aliases_onto t after aliases)) → (o : Option Meaning) → meant t alias.target ≡ o → AddAliases Means before (alias ∷ aliases) (aliases_onto t before (alias ∷ aliases))
+    go : ((after : Aliases) → AddAliases Means after aliases (aliases_onto t after aliases)) → (o : Option Meaning) → alias_meant t alias.target ≡ o → AddAliases Means before (alias ∷ aliases) (aliases_onto t before (alias ∷ aliases))
     go rest None e = absurd (some alias (inl refl) e)
     go rest (Some it) e =
         one_more (means alias.target it e)
@@ -123,7 +123,7 @@ module _ (given : Given) (asts : AstKey → Option Ast) (loaded : List Text) (bu
 
   module _ (m : Module) (inside : Forest) (j : Justfile) (shows : Shows given asts loaded built m inside j) where
     abbrev own_end : List Text → End
-    own_end names = end_of (out-Justfile j).absent_modules (out-Justfile j).modules names
+    own_end names = end_of_names (out-Justfile j).absent_modules (out-Justfile j).modules names
 
     own_agree : (xs : List Text) (x : Text) → Agree given asts loaded built (follow (x ∷ xs) m inside) (own_end (x ∷ xs))
     own_agree xs x =
@@ -178,7 +178,7 @@ module _ (given : Given) (asts : AstKey → Option Ast) (loaded : List Text) (bu
       by_agree both_nowhere p it f = barred (leads m inside path) it (recipe_from j path) refl p (looks_up path.front path.last) f
 
       -- what the path means over the tables it means in the tree
-      pub means_in : (it : Meaning) → meant (targets_of j) path ≡ Some it → Means it
+      pub means_in : (it : Meaning) → alias_meant (targets_of j) path ≡ Some it → Means it
       means_in it e = by_agree (all_agree path.front path.last) refl it (sym (meant_by (targets_of j) path) ∙ e)
 
       lost_recipe : (r : Option (Resolution Number)) → Resolves given asts loaded built (leads m inside path) last r → as_recipe r ≡ None → EndsWell (leads m inside path) last → ⊥
@@ -193,7 +193,7 @@ module _ (given : Given) (asts : AstKey → Option Ast) (loaded : List Text) (bu
       lost_by both_nowhere p f (to_recipe l) = lost_recipe (recipe_from j path) (looks_up path.front path.last) f l
 
       -- and where it means nothing it leads nowhere
-      pub means_nothing : meant (targets_of j) path ≡ None → HasTargetInTree m inside path → ⊥
+      pub means_nothing : alias_meant (targets_of j) path ≡ None → HasTargetInTree m inside path → ⊥
       means_nothing e = lost_by (all_agree path.front path.last) refl (sym (meant_by (targets_of j) path) ∙ e)
 
     -- an alias of a recipe stands for one that is held
@@ -203,8 +203,8 @@ module _ (given : Given) (asts : AstKey → Option Ast) (loaded : List Text) (bu
         elim (found_among name_of_alias name alias [] (recipes_among t _) (ap (λ (it : Aliases). find name it.recipes) (sym shows.is.fields.aliases_are) ∙ f)) [
           | inr wrong ↦ absurd (cc)
           | inl k ↦ (
-              let a = from_flat (λ (a : Alias Namepath). as_recipe_alias a (meant t a.target)) alias _ k.0 in
-              let is = of_recipe_alias a.0 alias (meant t a.0.target) a.2 in
+              let a = from_flat (λ (a : Alias Namepath). as_recipe_alias a (alias_meant t a.target)) alias _ k.0 in
+              let is = of_recipe_alias a.0 alias (alias_meant t a.0.target) a.2 in
               let r = recipe_looked (own_end (texts_of_path a.0.target)) (recipe_from j a.0.target) alias.target (sym (meant_by t a.0.target) ∙ is) in
               let number : IsNumbered given asts loaded built (leads m inside a.0.target) (text_of_name a.0.target.last) alias.target = subst (Resolves given asts loaded built (leads m inside a.0.target) (text_of_name a.0.target.last)) r (looks_up a.0.target.front a.0.target.last) in
               let x = made_there given asts loaded built (leads m inside a.0.target) (text_of_name a.0.target.last) alias.target number in
@@ -218,8 +218,8 @@ module _ (given : Given) (asts : AstKey → Option Ast) (loaded : List Text) (bu
         elim (found_among name_of_alias name alias [] (modules_among t _) (ap (λ (it : Aliases). find name it.modules) (sym shows.is.fields.aliases_are) ∙ f)) [
           | inr wrong ↦ absurd (cc)
           | inl k ↦ (
-              let a = from_flat (λ (a : Alias Namepath). as_module_alias a (meant t a.target)) alias _ k.0 in
-              let is = of_module_alias a.0 alias (meant t a.0.target) a.2 in
+              let a = from_flat (λ (a : Alias Namepath). as_module_alias a (alias_meant t a.target)) alias _ k.0 in
+              let is = of_module_alias a.0 alias (alias_meant t a.0.target) a.2 in
               let led = module_led (own_end (texts_of_path a.0.target)) (recipe_from j a.0.target) alias.target (sym (meant_by t a.0.target) ∙ is) in
               (led.0, stands_along j led.0 (texts_of_path a.0.target) (walk_along j led.0 (texts_of_path a.0.target) led.1), led.2))
         ]

@@ -11,7 +11,7 @@ use Rattle.just_ast_definitions.specs.Parameter.{least_arguments, most_arguments
 use Rattle.just_ast_definitions.specs.declared.parameter.Parameter.{Parameter}
 use Rattle.just_errors.specs.Causes.{Cause}
 use Rattle.just_justfile.specs.declared.justfile.Justfile.{out-Justfile}
-use Rattle.just_justfile.specs.Walks.{end_of, module_named, path_along, recipe_by}
+use Rattle.just_justfile.specs.Walks.{end_of_names, module_named, path_along, recipe_by}
 use Rattle.just_justfile.specs.declared.resolution.Resolution.{Resolution}
 use Rattle.just_justfile.specs.declared.resolution.Resolution.TheVariants as resolution
 use Rattle.just_module_contents.specs.Constants.{Evaluated}
@@ -54,7 +54,7 @@ use Rattle.just_module_variables.specs.Variables.{variable_number}
 use Rattle.just_recipe_names.specs.Numbered.{numbered_recipe}
 use Rattle.just_recipe_values.specs.Valued.{with_values}
 use Rattle.just_compiled.proofs.ArgumentsAlike.{least_completed, most_completed}
-use Rattle.just_compiled.specs.Justfiles.{Built, HasNumberIn, contents_in, kept_by, recipes_of_all, value_by}
+use Rattle.just_compiled.specs.Justfiles.{Built, HasNumberIn, contents_read, kept_by, recipes_of_all, value_by}
 use Rattle.just_compiled.proofs.Agreeing.{Agree, IsBarred, IsNumbered, Meets, Resolves, Through, agree, far_or, nowhere_end, nowhere_place, stays}
 use Rattle.just_compiled.proofs.Meanings.{module_somewhere, somewhere_or}
 use Rattle.just_compiled.proofs.NamedModules.{found_sorted}
@@ -143,7 +143,7 @@ module _ (given : Given) (asts : AstKey → Option Ast) (loaded : List Text) (bu
 
   -- what its files say, and the aliases among that
   abbrev said : Module → Contents
-  said m = contents_in given.syntax.enabled asts m.files
+  said m = contents_read given.syntax.enabled asts m.files
 
   abbrev aliases_by : Module → List (Alias Namepath)
   aliases_by m = (said m).aliases
@@ -219,12 +219,12 @@ module _ (given : Given) (asts : AstKey → Option Ast) (loaded : List Text) (bu
 
   module _ (m : Module) (inside : Forest) (it : Around) (meets : Meets given asts loaded built m inside it) where
     -- names lead alike
-    around_agree : (xs : List Text) (x : Text) → Agree given asts loaded built (follow (x ∷ xs) m inside) (end_of it.absent it.modules (x ∷ xs))
+    around_agree : (xs : List Text) (x : Text) → Agree given asts loaded built (follow (x ∷ xs) m inside) (end_of_names it.absent it.modules (x ∷ xs))
     around_agree xs x = agree given asts loaded built xs x m inside it.absent it.modules meets.inner meets.absent (λ name. ap (module_named name) meets.modules ∙ found_sorted name meets.inner meets.different) meets.compiled meets.inner_says
 
     -- a path of one name leads through no module
     nothing_far : (d : Namepath) → d.front ≡ [] → found_by it d ≡ None
-    nothing_far d e = ap (λ front. recipe_by (end_of it.absent it.modules (map text_of_name front)) [] [] (text_of_name d.last)) e
+    nothing_far d e = ap (λ front. recipe_by (end_of_names it.absent it.modules (map text_of_name front)) [] [] (text_of_name d.last)) e
 
     -- what a look-up that finds something means
     means : (d : Namepath) (r : Option (Resolution Number)) → found_by it d ≡ r → r ≢ None → Resolves given asts loaded built (leads m inside d) (text_of_name d.last) r
@@ -325,7 +325,7 @@ module _ (given : Given) (asts : AstKey → Option Ast) (loaded : List Text) (bu
         dependencies_alike (kept m) (kept_in m) meets.says.kept (PathLeadsTo (kept m) it) (LeadsSomewhere m inside) (Stands (kept m) it) (StandsInTree m inside) (Takes lists (kept m) it) (TakesIn lists m inside) leads_back stands_on (λ d s. takes_on lists d.recipe) lists
 
     -- all names of a path lead alike
-    names_agree : (front : List Name) (last : Name) → Agree given asts loaded built (follow (map text_of_name (front ++ last ∷ [])) m inside) (end_of it.absent it.modules (map text_of_name (front ++ last ∷ [])))
+    names_agree : (front : List Name) (last : Name) → Agree given asts loaded built (follow (map text_of_name (front ++ last ∷ [])) m inside) (end_of_names it.absent it.modules (map text_of_name (front ++ last ∷ [])))
     names_agree [] last = around_agree [] (text_of_name last)
     names_agree (x ∷ front) last = around_agree (map text_of_name (front ++ last ∷ [])) (text_of_name x)
 
@@ -358,7 +358,7 @@ module _ (given : Given) (asts : AstKey → Option Ast) (loaded : List Text) (bu
         links.of_defaults k.0 k.1 (defaults_alike ss k.0 k.2 c b)
 
     -- the same values are those of expressions, by what its files say and by the tree
-    value_same : (layers : Layers) (e : Evaluated) → links.value_by layers e (said m) ≡ trees.value_in layers e m
+    value_same : (layers : Layers) (e : Evaluated) → links.value_by layers e (said m) ≡ trees.constant_in layers e m
     value_same layers e = λ i x. layers.evaluator.value (functions_by_name (meets.says.known layers.syntax i).functions) e.constants (bare x)
 
     -- the same rules of one recipe are broken by those that stand
@@ -375,7 +375,7 @@ module _ (given : Given) (asts : AstKey → Option Ast) (loaded : List Text) (bu
     own_back layers e c (of_standing ss are b) =
         let k = standing_alike (StandsInTree m inside) (Stands (kept m) it) stands_back stands_on are (kept m) (sym meets.says.kept) in
         of_standing k.0 k.1 (subst₂ (λ value known. InOne (rule_at layers e value known) k.0 c) (sym (value_same layers e)) (sym (meets.says.known layers.syntax))
-        (rules_alike ss k.0 k.2 (trees.value_in layers e m) layers.syntax (known_of layers.syntax (contents_of m)) e.settings c b))
+        (rules_alike ss k.0 k.2 (trees.constant_in layers e m) layers.syntax (known_of layers.syntax (contents_of m)) e.settings c b))
 
     -- and the same patterns are past their limits
     limits_on : (layers : Layers) (e : Evaluated) (c : Cause) → links.IsPastLimitsBy layers e (said m) it c → trees.IsPastLimitsIn layers e m inside c

@@ -1,13 +1,13 @@
 -- What a path means, by where all its names lead.
 use Rattle.std.proofs.Common.{◌≡◌, ◌≢◌, ◌⊎◌, ◌∙◌, Bool, true, false, List, [], ◌∷◌, ◌++◌, map, Option, None, Some, inl, inr, refl, sym, ap, if◌then◌else◌, is_some}
 use Rattle.std.proofs.lemmas.List.{map-append}
-use Rattle.just_justfile.specs.Walks.{Absent, End, Here, Inside, Nowhere, beyond, end_of, module_by, module_named, only, path_along, recipe_by}
+use Rattle.just_justfile.specs.Walks.{Absent, End, Here, Inside, Nowhere, beyond, end_of_names, module_by, module_named, only, path_along, recipe_by}
 use Rattle.just_justfile.specs.declared.disabled.Disabled.{Disabled}
 use Rattle.just_justfile.specs.declared.justfile.Justfile.{Justfile, out-Justfile}
 use Rattle.just_justfile.specs.declared.justfile.RecipeKey.{RecipeKey}
 use Rattle.just_justfile.specs.declared.resolution.Resolution.{Resolution}
 use Rattle.just_justfile.specs.declared.resolution.Resolution.TheVariants as resolution
-use Rattle.just_module_recipes.specs.Aliased.{Targets, as_module, as_recipe, meant}
+use Rattle.just_module_recipes.specs.Aliased.{Targets, as_module, as_recipe, alias_meant}
 use Rattle.just_module_recipes.specs.declared.aliases.Meaning.{Meaning}
 use Rattle.just_module_recipes.specs.declared.aliases.Meaning.TheVariants as meaning
 use Rattle.just_names.specs.Name.{text_of_name, texts_of_path}
@@ -48,17 +48,17 @@ beyond_on x j Nowhere front last absent modules = refl
 -- where names lead of which the first is this, by the module of the first
 abbrev first_end : List Text → Text → Bool → Option Justfile → End
 first_end names x absent found = elim found as (λ _. End) [
-  | Some j ↦ beyond x j (end_of (out-Justfile j).absent_modules (out-Justfile j).modules names)
+  | Some j ↦ beyond x j (end_of_names (out-Justfile j).absent_modules (out-Justfile j).modules names)
   | None ↦ if absent then Absent (x ∷ []) else Nowhere
 ]
 
-pub end_last : (front : List Text) (last : Text) (absent : List (Text × Text)) (modules : List Justfile) → end_of absent modules (front ++ last ∷ []) ≡ on_from (end_of absent modules front) front last absent modules
+pub end_last : (front : List Text) (last : Text) (absent : List (Text × Text)) (modules : List Justfile) → end_of_names absent modules (front ++ last ∷ []) ≡ on_from (end_of_names absent modules front) front last absent modules
 end_last [] last absent modules = refl
 end_last (x ∷ front) last absent modules = go (λ j. end_last front last (out-Justfile j).absent_modules (out-Justfile j).modules) (is_some (find x absent)) (module_named x modules)
   where
-    go : ((j : Justfile) → end_of (out-Justfile j).absent_modules (out-Justfile j).modules (front ++ last ∷ []) ≡ on_from (end_of (out-Justfile j).absent_modules (out-Justfile j).modules front) front last (out-Justfile j).absent_modules (out-Justfile j).modules)
+    go : ((j : Justfile) → end_of_names (out-Justfile j).absent_modules (out-Justfile j).modules (front ++ last ∷ []) ≡ on_from (end_of_names (out-Justfile j).absent_modules (out-Justfile j).modules front) front last (out-Justfile j).absent_modules (out-Justfile j).modules)
         → (b : Bool) (found : Option Justfile) → first_end (front ++ last ∷ []) x b found ≡ on_from (first_end front x b found) (x ∷ front) last absent modules
-    go inner b (Some j) = ap (beyond x j) (inner j) ∙ beyond_on x j (end_of (out-Justfile j).absent_modules (out-Justfile j).modules front) front last absent modules
+    go inner b (Some j) = ap (beyond x j) (inner j) ∙ beyond_on x j (end_of_names (out-Justfile j).absent_modules (out-Justfile j).modules front) front last absent modules
     go inner true None = refl
     go inner false None = refl
 
@@ -93,11 +93,11 @@ module _ (path : Namepath) where
 
   module _ (absent : List (Text × Text)) (modules : List Justfile) where
     abbrev before : End
-    before = end_of absent modules front
+    before = end_of_names absent modules front
 
     -- where all names of the path lead
-    pub end_is : end_of absent modules (texts_of_path path) ≡ on_from before front last absent modules
-    end_is = ap (end_of absent modules) texts_are ∙ end_last front last absent modules
+    pub end_is : end_of_names absent modules (texts_of_path path) ≡ on_from before front last absent modules
+    end_is = ap (end_of_names absent modules) texts_are ∙ end_last front last absent modules
 
     module _ (disabled : List (Text × Disabled)) (recipes : List (Text × RecipeKey)) where
       by_end : (e : End) → as_module (module_by e absent modules path) (as_recipe (recipe_by e recipes disabled last)) ≡ meaning_at (on_from e front last absent modules) (as_recipe (recipe_by e recipes disabled last))
@@ -109,7 +109,7 @@ module _ (path : Namepath) where
       by_end Nowhere = refl
 
       -- what a path means is where its names lead, or the recipe to which it leads
-      pub meant_is : as_module (module_by before absent modules path) (as_recipe (recipe_by before recipes disabled last)) ≡ meaning_at (end_of absent modules (texts_of_path path)) (as_recipe (recipe_by before recipes disabled last))
+      pub meant_is : as_module (module_by before absent modules path) (as_recipe (recipe_by before recipes disabled last)) ≡ meaning_at (end_of_names absent modules (texts_of_path path)) (as_recipe (recipe_by before recipes disabled last))
       meant_is = by_end before ∙ ap (λ e. meaning_at e (as_recipe (recipe_by before recipes disabled last))) (sym end_is)
 
     some_found : (b : Bool) (found : Option Justfile) → module_found (texts_of_path path) b found ≢ None → last_by front last b found ≢ Nowhere
@@ -129,7 +129,7 @@ module _ (path : Namepath) where
     some_module Nowhere some = absurd (some refl)
 
     -- a path that leads to a module, present or absent, leads somewhere
-    pub module_somewhere : module_by before absent modules path ≢ None → end_of absent modules (texts_of_path path) ≢ Nowhere
+    pub module_somewhere : module_by before absent modules path ≢ None → end_of_names absent modules (texts_of_path path) ≢ Nowhere
     module_somewhere some e = some_module before some (sym end_is ∙ e)
 
     module_or : (e : End) → on_from e front last absent modules ≢ Nowhere → (module_by e absent modules path ≢ None) ⊎ (recipe_by e [] [] last ≢ None)
@@ -139,9 +139,9 @@ module _ (path : Namepath) where
     module_or Nowhere some = absurd (some refl)
 
     -- and one that leads somewhere leads to a module, or through one without a file
-    pub somewhere_or : end_of absent modules (texts_of_path path) ≢ Nowhere → (module_by before absent modules path ≢ None) ⊎ (recipe_by before [] [] last ≢ None)
+    pub somewhere_or : end_of_names absent modules (texts_of_path path) ≢ Nowhere → (module_by before absent modules path ≢ None) ⊎ (recipe_by before [] [] last ≢ None)
     somewhere_or some = module_or before (λ e. some (end_is ∙ e))
 
 -- what a path means as the target of an alias
-pub meant_by : (t : Targets) (path : Namepath) → meant t path ≡ meaning_at (end_of t.absent t.modules (texts_of_path path)) (as_recipe (recipe_by (end_of t.absent t.modules (map text_of_name path.front)) t.recipes t.disabled (text_of_name path.last)))
+pub meant_by : (t : Targets) (path : Namepath) → alias_meant t path ≡ meaning_at (end_of_names t.absent t.modules (texts_of_path path)) (as_recipe (recipe_by (end_of_names t.absent t.modules (map text_of_name path.front)) t.recipes t.disabled (text_of_name path.last)))
 meant_by t path = meant_is path t.absent t.modules t.disabled t.recipes

@@ -25,7 +25,7 @@ use Rattle.just_module_variables.specs.Variables.{known_with_numbers}
 use Rattle.just_justfile.specs.Closed.{StandsIn}
 use Rattle.just_justfile.specs.Running.{HaveOwnNumbers}
 use Rattle.just_justfile.specs.declared.justfile.Justfile.{Justfile, out-Justfile}
-use Rattle.just_compiled.specs.Justfiles.{AreCompiled, Built, IsCompiled, Made, contents_in, none, one, recipes_of_all}
+use Rattle.just_compiled.specs.Justfiles.{AreCompiled, Built, IsCompiled, Made, contents_read, none, one, recipes_of_all}
 use Rattle.just_compiled.proofs.ByName.{files_path}
 use Rattle.just_compiled.proofs.Closing.{named_in, stands_cases}
 use Rattle.just_compiled.proofs.NumbersApart.{found_among, name_of, number_of, one_of}
@@ -82,7 +82,7 @@ module _ (given : Given) (asts : AstKey → Option Ast) (can : AreAnalyzable giv
     module_said : {h : Heading} {m : Module} {below : Forest} {inner : List Justfile} {made : Made} {j : Justfile} → IsModule R h m → IsCompiled given asts loaded (recipes_of_all built) m below inner made j
         → (x : Text) (a : Assignment) → find x (out-Justfile j).assignments ≡ Some a → IsSaid j x a
     module_said {h = h} {m = m} {j = j} i is x a found =
-        let contents = contents_in given.syntax.enabled asts m.files in
+        let contents = contents_read given.syntax.enabled asts m.files in
         let known = known_with_numbers given.syntax contents in
         let b = changed_back (numbered_assignment known) x a known.assignments (ap (find x) (sym is.variables.assignments_are) ∙ found) in
         let among = found_among x b.0 (kept_variables contents.variables) b.1 in

@@ -12,7 +12,7 @@ use Rattle.just_justfile.specs.declared.justfile.RecipeKey.{RecipeKey}
 use Rattle.just_table.specs.Entries.{find, put, put_all}
 use Rattle.just_table.proofs.Puts.{find_put}
 use Rattle.just_module_contents.specs.Recipes.{name_of, no_recipe, recipe_at}
-use Rattle.just_compiled.specs.Analysis.{key_of, name_of_key, recipe_table}
+use Rattle.just_compiled.specs.Analysis.{recipe_key_of, name_of_key, recipe_table}
 
 module _ {V : Type 0} (key : V → Text) where
   all_more : (es : List (Text × V)) (vs : List V) (v : V) → put_all key es (vs ++ v ∷ []) ≡ put (key v) v (put_all key es vs)
@@ -50,15 +50,15 @@ module _ {V : Type 0} (key : V → Text) where
   not_found k es (w ∷ vs) e v (inr i) same = not_found k (put (key w) w es) vs e v i same
 
 -- one more key
-pub keys_next : (rs : List (Recipe UnresolvedDependency)) (n : ℕ) (key : RecipeKey) (old new : List (Text × RecipeKey)) → n < length rs → old ≡ recipe_table (take n rs) → key ≡ key_of (recipe_at rs n)
+pub keys_next : (rs : List (Recipe UnresolvedDependency)) (n : ℕ) (key : RecipeKey) (old new : List (Text × RecipeKey)) → n < length rs → old ≡ recipe_table (take n rs) → key ≡ recipe_key_of (recipe_at rs n)
     → new ≡ put (name_of_key key) key old → new ≡ recipe_table (take (n + 1) rs)
 keys_next rs n key old new more so is e =
-    e ∙ (λ i. put (name_of_key (is i)) (is i) (so i)) ∙ sym (all_more name_of_key [] (map key_of (take n rs)) (key_of (recipe_at rs n)))
-    ∙ ap (put_all name_of_key []) (sym (map-append key_of (take n rs) (recipe_at rs n ∷ [])) ∙ ap (map key_of) (sym (take_more rs n no_recipe more)))
+    e ∙ (λ i. put (name_of_key (is i)) (is i) (so i)) ∙ sym (all_more name_of_key [] (map recipe_key_of (take n rs)) (recipe_key_of (recipe_at rs n)))
+    ∙ ap (put_all name_of_key []) (sym (map-append recipe_key_of (take n rs) (recipe_at rs n ∷ [])) ∙ ap (map recipe_key_of) (sym (take_more rs n no_recipe more)))
 
 -- a key that is found is that of a recipe of the name
-pub key_found : (rs : List (Recipe UnresolvedDependency)) (name : Text) (key : RecipeKey) → find name (recipe_table rs) ≡ Some key → (r : Recipe UnresolvedDependency) × In r rs × (key ≡ key_of r) × (name_of r ≡ name)
-key_found rs name key e = elim (found_among name_of_key name key [] (map key_of rs) e) [
-  | inl h ↦ (let r = from_map key_of key rs h.0 in (r.0, r.1, r.2, ap name_of_key (sym r.2) ∙ h.1))
+pub key_found : (rs : List (Recipe UnresolvedDependency)) (name : Text) (key : RecipeKey) → find name (recipe_table rs) ≡ Some key → (r : Recipe UnresolvedDependency) × In r rs × (key ≡ recipe_key_of r) × (name_of r ≡ name)
+key_found rs name key e = elim (found_among name_of_key name key [] (map recipe_key_of rs) e) [
+  | inl h ↦ (let r = from_map recipe_key_of key rs h.0 in (r.0, r.1, r.2, ap name_of_key (sym r.2) ∙ h.1))
   | inr none ↦ cc
 ]

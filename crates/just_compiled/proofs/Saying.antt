@@ -23,14 +23,14 @@ use Rattle.just_parts.specs.Layers.{Given}
 use Rattle.just_parts.specs.Known.{known}
 use Rattle.just_parts.specs.Located.{located_assignment, located_item}
 use Rattle.just_parts.specs.Syntax.{SyntaxAnswers}
-use Rattle.just_compiled.specs.Justfiles.{contents_in, kept_by, recipes_in}
+use Rattle.just_compiled.specs.Justfiles.{contents_read, kept_by, recipes_in}
 
 -- The recipes of a module that are kept are alike those that its files keep, its absent modules and its aliases are those of its files, and names stand for the same.
 pub record Says (given : Given) (asts : AstKey → Option Ast) (m : Module) : Type 0 where
   pub kept : AreAlike (kept_by given asts m) (kept_in m)
   pub absent : flat_map (λ k. said_in absent_by given.syntax.enabled (asts k)) m.files ≡ absent_in m
   pub aliases : flat_map (λ k. said_in alias_by given.syntax.enabled (asts k)) m.files ≡ (contents_of m).aliases
-  pub known : (answers : SyntaxAnswers) → known_of answers (contents_in given.syntax.enabled asts m.files) ≡ known_of answers (contents_of m)
+  pub known : (answers : SyntaxAnswers) → known_of answers (contents_read given.syntax.enabled asts m.files) ≡ known_of answers (contents_of m)
 
 absent_located : (i : Item) → absent_by (located_item i) ≡ absent_by i
 absent_located (item.Module name relative None attributes doc true) = refl

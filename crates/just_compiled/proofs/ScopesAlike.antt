@@ -32,7 +32,7 @@ use Rattle.just_recipe.specs.Script.{is_script, is_shell, says_shell}
 use Rattle.just_recipe.specs.declared.dependency.DependencyArgument.{DependencyArgument}
 use Rattle.just_recipe.specs.declared.dependency.UnresolvedDependency.{UnresolvedDependency}
 use Rattle.just_recipe.specs.declared.recipe.Recipe.{Recipe}
-use Rattle.just_recipe_names.specs.Numbered.{attribute_by, dependency_by, fragment_by, given_by, line_by, named_by, numbered_body, numbered_parameters, parameter_by, property_by, shell_lines_by, under}
+use Rattle.just_recipe_names.specs.Numbered.{attribute_by, dependency_by, fragment_by, given_by, line_by, attribute_with, numbered_body, numbered_parameters, parameter_by, property_by, shell_lines_by, under}
 use Rattle.just_justfile.specs.Running.{TellsBareLines, arguments_of, bare_fragment, bare_line}
 use Rattle.just_recipe_values.specs.Valued.{informed, valued_attribute, valued_named}
 
@@ -123,7 +123,7 @@ module _ (value : Expression → Option (List Text)) (outer inner : Expression �
   changed a = valued_attribute value (attribute_by outer inner a)
 
   abbrev pub all_changed : List (NamedAttribute Expression) → List (NamedAttribute Expression)
-  all_changed attributes = map (valued_named value) (map (named_by outer inner) attributes)
+  all_changed attributes = map (valued_named value) (map (attribute_with outer inner) attributes)
 
   module _ (outer_same : (e : Expression) → mentions (outer e) ≡ mentions e) (inner_same : (e : Expression) → mentions (inner e) ≡ mentions e) where
     compiled_alike : (a : Attribute Expression) → map mentions (compiled_expressions (changed a)) ≡ map mentions (compiled_expressions a)

@@ -12,7 +12,7 @@ use Rattle.just_compiled.proofs.ByName.{names_sorted}
 use Rattle.just_compiled.proofs.Closing.{named_in}
 use Rattle.just_compiled.proofs.RecipeKeys.{found_among, key_found}
 use Rattle.just_graph.proofs.Members.{In, is_in}
-use Rattle.just_justfile.specs.Walks.{Absent, AreOrdered, End, Here, Inside, AreModulesOrdered, NamesRise, Nowhere, beyond, end_of, in_order, module_named, only, path_along, recipe_at as key_at, recipe_by}
+use Rattle.just_justfile.specs.Walks.{Absent, AreOrdered, End, Here, Inside, AreModulesOrdered, NamesRise, Nowhere, beyond, end_of_names, in_order, module_named, only, path_along, recipe_under as key_at, recipe_by}
 use Rattle.just_justfile.specs.declared.disabled.Disabled.{Disabled}
 use Rattle.just_justfile.specs.declared.justfile.Justfile.{Justfile, out-Justfile, out-roll-Justfile}
 use Rattle.just_justfile.specs.declared.justfile.RecipeKey.{RecipeKey}
@@ -40,7 +40,7 @@ use Rattle.just_table.specs.Entries.{find}
 -- where names lead beyond the first, by the module that it names
 abbrev next_end : List Text → Text → List (Text × Text) → Option Justfile → End
 next_end names name absent found = elim found as (λ _. End) [
-  | Some j ↦ beyond name j (end_of (out-Justfile j).absent_modules (out-Justfile j).modules names)
+  | Some j ↦ beyond name j (end_of_names (out-Justfile j).absent_modules (out-Justfile j).modules names)
   | None ↦ if is_some (find name absent) then Absent (name ∷ []) else Nowhere
 ]
 
@@ -99,23 +99,23 @@ module _ (held : List (Recipe Dependency)) where
   all_disabled : {j : Justfile} → IsSettled held j → (name : Text) (d : Disabled) → find name (out-Justfile j).disabled_recipes ≡ Some d → d.modules.keys ≢ []
   all_disabled (settled recipes disabled rise inner) = disabled
 
-  beyond_settled : (name : Text) (names : List Text) (inner j : Justfile) → IsSettled held inner → (end_of (out-Justfile inner).absent_modules (out-Justfile inner).modules names ≡ Inside j → IsSettled held j)
-      → (end : End) → end_of (out-Justfile inner).absent_modules (out-Justfile inner).modules names ≡ end → beyond name inner end ≡ Inside j → IsSettled held j
+  beyond_settled : (name : Text) (names : List Text) (inner j : Justfile) → IsSettled held inner → (end_of_names (out-Justfile inner).absent_modules (out-Justfile inner).modules names ≡ Inside j → IsSettled held j)
+      → (end : End) → end_of_names (out-Justfile inner).absent_modules (out-Justfile inner).modules names ≡ end → beyond name inner end ≡ Inside j → IsSettled held j
   beyond_settled name names inner j is ih Here f g = subst (IsSettled held) (inside_same inner j g) is
   beyond_settled name names inner j is ih (Inside x) f g = ih (f ∙ g)
   beyond_settled name names inner j is ih (Absent ns) f g = cc
   beyond_settled name names inner j is ih Nowhere f g = cc
 
   next_settled : (name : Text) (names : List Text) (absent : List (Text × Text)) (modules : List Justfile) (j : Justfile) → ((inner : Justfile) → Contains modules inner → IsSettled held inner)
-      → ((inner : Justfile) → IsSettled held inner → end_of (out-Justfile inner).absent_modules (out-Justfile inner).modules names ≡ Inside j → IsSettled held j)
+      → ((inner : Justfile) → IsSettled held inner → end_of_names (out-Justfile inner).absent_modules (out-Justfile inner).modules names ≡ Inside j → IsSettled held j)
       → (found : Option Justfile) → module_named name modules ≡ found → next_end names name absent found ≡ Inside j → IsSettled held j
   next_settled name names absent modules j all ih None f g = absurd (missed name (is_some (find name absent)) j g)
   next_settled name names absent modules j all ih (Some inner) f g =
       let is = all inner (named_there name modules inner f) in
-      beyond_settled name names inner j is (ih inner is) (end_of (out-Justfile inner).absent_modules (out-Justfile inner).modules names) refl g
+      beyond_settled name names inner j is (ih inner is) (end_of_names (out-Justfile inner).absent_modules (out-Justfile inner).modules names) refl g
 
   -- a module to which names lead is settled
-  end_settled : (names : List Text) (absent : List (Text × Text)) (modules : List Justfile) (j : Justfile) → ((inner : Justfile) → Contains modules inner → IsSettled held inner) → end_of absent modules names ≡ Inside j → IsSettled held j
+  end_settled : (names : List Text) (absent : List (Text × Text)) (modules : List Justfile) (j : Justfile) → ((inner : Justfile) → Contains modules inner → IsSettled held inner) → end_of_names absent modules names ≡ Inside j → IsSettled held j
   end_settled [] absent modules j all e = cc
   end_settled (name ∷ names) absent modules j all e =
       next_settled name names absent modules j all (λ inner is g. end_settled names (out-Justfile inner).absent_modules (out-Justfile inner).modules j (inner_settled is) g) (module_named name modules) refl e
@@ -140,15 +140,15 @@ module _ (held : List (Recipe Dependency)) where
 
   -- so is what is around the recipes of a module in which such modules stand
   pub around_settled : (absent : List (Text × Text)) (modules : List Justfile) → ((inner : Justfile) → Contains modules inner → IsSettled held inner) → AreSettled (around absent modules held)
-  around_settled absent modules all = record { held = λ path n e. numbers path n (end_of absent modules (map text_of_name path.front)) refl e; disabled = λ path set e. sets path set (end_of absent modules (map text_of_name path.front)) refl e }
+  around_settled absent modules all = record { held = λ path n e. numbers path n (end_of_names absent modules (map text_of_name path.front)) refl e; disabled = λ path set e. sets path set (end_of_names absent modules (map text_of_name path.front)) refl e }
     where
-      numbers : (path : Namepath) (n : Number) (end : End) → end_of absent modules (map text_of_name path.front) ≡ end → recipe_by end [] [] (text_of_name path.last) ≡ Some (resolution.Resolved n) → IsSome (find_number held n.0)
+      numbers : (path : Namepath) (n : Number) (end : End) → end_of_names absent modules (map text_of_name path.front) ≡ end → recipe_by end [] [] (text_of_name path.last) ≡ Some (resolution.Resolved n) → IsSome (find_number held n.0)
       numbers path n Here f g = cc
       numbers path n (Inside j) f g = number_held j (text_of_name path.last) n (end_settled (map text_of_name path.front) absent modules j all f) g
       numbers path n (Absent names) f g = cc
       numbers path n Nowhere f g = cc
 
-      sets : (path : Namepath) (set : BTreeSet Modulepath) (end : End) → end_of absent modules (map text_of_name path.front) ≡ end → recipe_by end [] [] (text_of_name path.last) ≡ Some (resolution.Disabled set) → set.keys ≢ []
+      sets : (path : Namepath) (set : BTreeSet Modulepath) (end : End) → end_of_names absent modules (map text_of_name path.front) ≡ end → recipe_by end [] [] (text_of_name path.last) ≡ Some (resolution.Disabled set) → set.keys ≢ []
       sets path set Here f g = cc
       sets path set (Inside j) f g = some_disable j (text_of_name path.last) set (end_settled (map text_of_name path.front) absent modules j all f) g
       sets path set (Absent names) f g = not_none (path_along names) set (set_same (only (path_along names)) set g)

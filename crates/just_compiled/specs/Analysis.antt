@@ -32,15 +32,15 @@ use Rattle.just_recipe.specs.declared.dependency.Dependency.{Dependency}
 use Rattle.just_module_contents.specs.Defaults.{IsDefaultAmong}
 
 -- the key of a recipe: its name and its number
-abbrev pub key_of : Recipe UnresolvedDependency → RecipeKey
-key_of r = record { name = r.name; number = r.number }
+abbrev pub recipe_key_of : Recipe UnresolvedDependency → RecipeKey
+recipe_key_of r = record { name = r.name; number = r.number }
 
 abbrev pub name_of_key : RecipeKey → Text
 name_of_key key = text_of_name key.name
 
 -- the table of recipes: the key of each under its name, one after another
 abbrev pub recipe_table : List (Recipe UnresolvedDependency) → List (Text × RecipeKey)
-recipe_table recipes = put_all name_of_key [] (map key_of recipes)
+recipe_table recipes = put_all name_of_key [] (map recipe_key_of recipes)
 
 -- a module's default, of its recipes that stand
 abbrev pub HasDefault : List (Recipe UnresolvedDependency) → List (Recipe UnresolvedDependency) → Justfile → Type 0

@@ -47,8 +47,8 @@ abbrev pub recipes_in : (Item → Bool) → (AstKey → Option Ast) → List Ast
 recipes_in enabled asts files = flat_map (λ k. recipes_of enabled (items_in (asts k))) files
 
 -- what the rules read of files
-abbrev pub contents_in : (Item → Bool) → (AstKey → Option Ast) → List AstKey → Contents
-contents_in enabled asts files = record {
+abbrev pub contents_read : (Item → Bool) → (AstKey → Option Ast) → List AstKey → Contents
+contents_read enabled asts files = record {
   recipes = recipes_in enabled asts files;
   functions = flat_map (λ k. said_in function_by enabled (asts k)) files;
   variables = flat_map (λ k. said_in variable_by enabled (asts k)) files;
@@ -88,7 +88,7 @@ kept_by given asts m = kept_recipes (recipes_in given.syntax.enabled asts m.file
 
 -- the value of an expression among the constants of a module, as its files say it
 abbrev pub value_by : Given → (AstKey → Option Ast) → Module → Evaluated → Expression → Option (List Text)
-value_by given asts m it = value_among given.evaluator (contents_in given.syntax.enabled asts m.files) it.constants
+value_by given asts m it = value_among given.evaluator (contents_read given.syntax.enabled asts m.files) it.constants
 
 -- the number of the kept recipe that a path leads to from a module
 pub record HasNumberIn (given : Given) (asts : AstKey → Option Ast) (m : Module) (inside : Forest) (path : Namepath) (number : Number) : Type 0 where
@@ -117,7 +117,7 @@ pub data AddAliases (Means : Namepath → Meaning → Type 0) : Aliases → List
 abbrev pub AreAliased : (Namepath → Meaning → Type 0) → List (Alias Namepath) → Aliases → Type 0
 AreAliased Means = AddAliases Means no_aliases
 
--- What a module is compiled to, of all recipes: its recipes that nothing disables, linked, and after those that they depend on, the others with what disables them, what is evaluated of it, and its justfile, with the modules in it, which have the labels of their declarations.
+-- What a module is compiled to, of all recipes: its recipes that nothing disables, linked, the others with what disables them, what is evaluated of it, and its justfile, with the modules in it, which have the labels of their declarations.
 pub record IsCompiled (given : Given) (asts : AstKey → Option Ast) (loaded : List Text) (all : List (Recipe Dependency)) (m : Module) (inside : Forest) (inner : List Justfile) (made : Made) (j : Justfile) : Type 0 where
   pub own : Ast
   pub own_said : asts m.heading.key ≡ Some own
@@ -127,12 +127,12 @@ pub record IsCompiled (given : Given) (asts : AstKey → Option Ast) (loaded : L
   pub standing : List (Recipe UnresolvedDependency)
   pub stand : AreStanding (StandsInTree m inside) (kept_by given asts m) standing
   pub disabled : HasDisabled (DisabledBy m inside) (kept_by given asts m) (out-Justfile j).disabled_recipes
-  pub evaluated : IsEvaluatedTo (layers_at given (path_of m)) (contents_in given.syntax.enabled asts m.files) (map (λ (s : Submodule). s.label) m.modules) (map label_in inner) made.overridden j
+  pub evaluated : IsEvaluatedTo (layers_at given (path_of m)) (contents_read given.syntax.enabled asts m.files) (map (λ (s : Submodule). s.label) m.modules) (map label_in inner) made.overridden j
   pub linked : AreLinked (StandsInTree m inside) (HasNumberIn given asts m inside) (completion_of (value_by given asts m evaluated.it) given.syntax j) (out-Justfile j).settings.lists all (kept_by given asts m) (path_of m) made.recipes
-  pub variables : HasVariables given.syntax (contents_in given.syntax.enabled asts m.files) j
+  pub variables : HasVariables given.syntax (contents_read given.syntax.enabled asts m.files) j
   pub tables : HasTables j
   pub default : HasDefault standing (recipes_of given.syntax.enabled own.items) j
-  pub fields : IsOf (contents_in given.syntax.enabled asts m.files) standing own loaded m.heading.key.1 j
+  pub fields : IsOf (contents_read given.syntax.enabled asts m.files) standing own loaded m.heading.key.1 j
   pub notes : notes_in j ≡ notes_said given.syntax.enabled asts m.files
   pub modules : (out-Justfile j).modules ≡ by_name inner
   pub different : AreDifferent (map module_name inner)

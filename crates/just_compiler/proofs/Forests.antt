@@ -24,7 +24,7 @@ use Rattle.just_module_headers.specs.Joined.{IsJoined}
 use Rattle.just_module_variables.specs.Documented.{AreDocumented, HasDoc}
 use Rattle.just_compiled.specs.Evaluated.{AreLabels, IsEvaluatedTo, overridden_in}
 use Rattle.just_compiled.specs.Labelled.{label_in, labelled_as, with_labels, by_name, notes_in, slot}
-use Rattle.just_compiled.specs.Justfiles.{AreAliased, AreCompiled, Built, IsCompiled, MeansIn, Made, contents_in, none, notes_said, one, recipes_in, kept_by, recipes_of_all, value_by}
+use Rattle.just_compiled.specs.Justfiles.{AreAliased, AreCompiled, Built, IsCompiled, MeansIn, Made, contents_read, none, notes_said, one, recipes_in, kept_by, recipes_of_all, value_by}
 use Rattle.just_module_tree.specs.Modules.{Empty, Forest, Heading, Module, Tree, headings_in, AreModules, IsHeading, a_module, after_it, contents_of, first, in_it, no_module, path_of}
 use Rattle.just_module_contents.specs.Constants.{Evaluated, IsEvaluated, value_among}
 use Rattle.just_module_contents.specs.Contents.{Contents}
@@ -71,7 +71,7 @@ use Rattle.just_compiled.proofs.Aliasing.{all_aliased, means_in, means_nothing}
 use Rattle.just_compiled.proofs.Bridges.{aliases_back, links_back}
 use Rattle.just_module_contents.specs.Groups.{OfAliases}
 use Rattle.just_module_contents.specs.Rules.{BreaksAliasTargets, under, unknown_target}
-use Rattle.just_module_recipes.specs.Aliased.{aliases_of, meant, no_aliases, targets as targets_made, targets_of}
+use Rattle.just_module_recipes.specs.Aliased.{aliases_of, alias_meant, no_aliases, targets as targets_made, targets_of}
 use Rattle.just_ast_definitions.specs.declared.alias.Alias.{Alias}
 use Rattle.just_names.specs.declared.name.Namepath.{Namepath}
 use Rattle.just_module_tree.specs.Standing.{HasTargetInTree, links_in, name_in, of_targets, told_in}
@@ -198,7 +198,7 @@ module _ (given : Given) (entries : List (AstKey × Ast)) (d : AstKey) (files : 
     rs_same : recipes_of_place given.syntax.enabled files joined p ≡ recipes_in given.syntax.enabled asts m.files
     rs_same = recipes_same given entries d files placed rows are paths joined order below joins lists_first loaded many differ (targets joined.files.items p) (file_inside given.syntax.enabled entries d files placed rows are paths joined p (below k l) (joins k l))
 
-    cs_same : contents_of_place given.syntax.enabled files joined p ≡ contents_in given.syntax.enabled asts m.files
+    cs_same : contents_of_place given.syntax.enabled files joined p ≡ contents_read given.syntax.enabled asts m.files
     cs_same = contents_same given entries d files placed rows are paths joined order below joins lists_first loaded many differ (targets joined.files.items p) (file_inside given.syntax.enabled entries d files placed rows are paths joined p (below k l) (joins k l))
 
     in_files : (q : ℕ) → In q (targets joined.files.items p) → q < n
@@ -219,7 +219,7 @@ module _ (given : Given) (entries : List (AstKey × Ast)) (d : AstKey) (files : 
     -- what is evaluated of it
     module _ (label : Label) where
       abbrev cs : Contents
-      cs = contents_in given.syntax.enabled asts m.files
+      cs = contents_read given.syntax.enabled asts m.files
 
       abbrev it : Evaluated
       it = at.evaluated.it
@@ -298,10 +298,10 @@ module _ (given : Given) (entries : List (AstKey × Ast)) (d : AstKey) (files : 
             stand = told.stand;
             disabled = told.disabled;
             evaluated = evaluated label;
-            variables = subst (λ x. AreVariables given.syntax (contents_in given.syntax.enabled asts m.files) x.assignments x.functions x.evaluation_order) (sym (out label)) (subst (λ cs. HasVariables given.syntax cs (justfile p)) cs_same at.variables);
+            variables = subst (λ x. AreVariables given.syntax (contents_read given.syntax.enabled asts m.files) x.assignments x.functions x.evaluation_order) (sym (out label)) (subst (λ cs. HasVariables given.syntax cs (justfile p)) cs_same at.variables);
             tables = subst (λ x. AreTables x.assignments x.functions) (sym (out label)) at.tables;
             default = subst (λ x. IsDefaultAmong at.standing (recipes_of given.syntax.enabled at.own.items) x.default) (sym (out label)) at.default;
-            fields = labelled_is_of (contents_in given.syntax.enabled asts m.files) at.standing at.own loaded h.key.1 label (justfile p)
+            fields = labelled_is_of (contents_read given.syntax.enabled asts m.files) at.standing at.own loaded h.key.1 label (justfile p)
                 (subst (λ cs. IsOf cs at.standing at.own loaded h.key.1 (justfile p)) cs_same (subst (λ (x : AstKey). IsOf (contents_of_place given.syntax.enabled files joined p) at.standing at.own loaded x.1 (justfile p)) key_same at.fields));
             notes = notes label;
             modules = modules label;
@@ -340,7 +340,7 @@ module _ (given : Given) (entries : List (AstKey × Ast)) (d : AstKey) (files : 
           let met = meets label in
           let compiled_inside = held.compiled_as at.labels (heads_named given entries d files placed rows are paths joined order below joins lists_first loaded many differ k l h e inside held.are_modules built (map justfile (targets joined.modules.items p)) (length-map (targets joined.modules.items p) justfile) held.compiled_as at.labels labels_named) in
           let shows : Shows given asts loaded built m inside (j label) = record { made = made p; inner = inner; compiled = compiled_inside; is = is; says = met.says; inner_says = met.inner_says } in
-          let known : (alias : Alias Namepath) → In alias (contents_of m).aliases → meant (targets_of (j label)) alias.target ≢ None = λ alias i nothing.
+          let known : (alias : Alias Namepath) → In alias (contents_of m).aliases → alias_meant (targets_of (j label)) alias.target ≢ None = λ alias i nothing.
           targets_there _ (unknown_target (contained alias (contents_of m).aliases i) (means_nothing given asts loaded built m inside (j label) shows alias.target nothing)) in
           subst (AreAliased (MeansIn given asts m inside) (contents_of m).aliases) (sym (is.fields.aliases_are ∙ ap (aliases_of (targets_of (j label))) met.says.aliases))
           (all_aliased (targets_of (j label)) (MeansIn given asts m inside) (means_in given asts loaded built m inside (j label) shows) (contents_of m).aliases no_aliases known)

@@ -41,7 +41,7 @@ use Rattle.just_name_resolution.proofs.Sets.{number_itself, one_number}
 use Rattle.just_names.specs.Texts.{Text}
 use Rattle.just_names.specs.declared.number.Number.{Number}
 use Rattle.just_overrides.proofs.Ruling.{at_root}
-use Rattle.just_overrides.specs.Reached.{aliased, given_for, meant, number_in, reached, reached_from, variable_of}
+use Rattle.just_overrides.specs.Reached.{aliased, given_for, overrides_meant, number_in, reached, reached_from, variable_of}
 use Rattle.just_parts.specs.Asts.{AstKey}
 use Rattle.just_parts.specs.Evaluator.{Evaluator}
 use Rattle.just_parts.specs.Items.{Ast}
@@ -53,7 +53,7 @@ use Rattle.just_recipe.specs.declared.recipe.Recipe.{Recipe}
 use Rattle.just_table.specs.Entries.{IsSorted, find, put_all}
 use Rattle.just_compiled.proofs.Building.{of_module}
 use Rattle.just_compiled.proofs.Placing.{standing}
-use Rattle.just_compiled.specs.Justfiles.{Built, IsCompiled, Made, contents_in, recipes_of_all}
+use Rattle.just_compiled.specs.Justfiles.{Built, IsCompiled, Made, contents_read, recipes_of_all}
 use Rattle.just_loader.specs.Reached.{World}
 use Rattle.just_compiler.specs.Analyzed.{IsAnalyzed}
 use Rattle.just_compiler.specs.Readings.{Overrides, given_in, root_heading}
@@ -190,24 +190,24 @@ module _ (evaluator : Evaluator) (overrides : Overrides) (w : World) (asts : Ast
       ap (option_and_then (number_in name)) (walks_on justfile path.components justfile j along) ∙ has
 
   -- what a key means is among what is meant
-  is_among : (key : OverrideKey) (value : Text) (number : Number) → In (key, value) overrides.entries → variable_of justfile key ≡ Some number → In (number, value) (meant justfile overrides.entries)
+  is_among : (key : OverrideKey) (value : Text) (number : Number) → In (key, value) overrides.entries → variable_of justfile key ≡ Some number → In (number, value) (overrides_meant justfile overrides.entries)
   is_among key value number i e =
       in_flat (λ (entry : OverrideKey × Text). given_for entry.1 (variable_of justfile entry.0)) (number, value) (key, value) overrides.entries i (subst (λ o. In (number, value) (given_for value o)) (sym e) (inl refl))
 
   -- what overrides a variable of a module that stands in the root is meant
   module_meant : (j : Justfile) (m : Module) (below : Forest) (inner : List Justfile) (made : Made) → StandsIn justfile j → IsCompiled (given_in evaluator overrides w) asts loaded (recipes_of_all analyzed.built) m below inner made j
-      → (entry : Number × Text) (n : Number) → In entry made.overridden → entry.0 ≡ n → (u : Text) × (last_of (meant justfile overrides.entries) n ≡ Some u)
+      → (entry : Number × Text) (n : Number) → In entry made.overridden → entry.0 ≡ n → (u : Text) × (last_of (overrides_meant justfile overrides.entries) n ≡ Some u)
   module_meant j m below inner made stands is entry n there same =
       let given = given_in evaluator overrides w in
-      let contents : Contents = contents_in given.syntax.enabled asts m.files in
+      let contents : Contents = contents_read given.syntax.enabled asts m.files in
       let number = numbered_assignment (known_with_numbers given.syntax contents) in
       let x = overrides_one (override_at overrides (path_of m)) contents.variables entry (subst (In entry) is.evaluated.overrides_are there) in
       let has : number_in x.name j ≡ Some x.variable.number = ap (λ es. option_map (λ (a : Assignment). a.number) (find x.name es)) is.variables.assignments_are
       ∙ (ap (option_map (λ (a : Assignment). a.number)) (find_changed number x.name (variables_under contents.variables)) ∙ ap (λ o. option_map (λ (a : Assignment). a.number) (option_map number o)) x.is) in
       let means = key_means j (path_of m) x.name x.variable.number stands is.path has in
-      has_last (meant justfile overrides.entries) (x.variable.number, x.value) n (is_among (path_of m, x.name) x.value x.variable.number (has_key overrides (path_of m) x.name x.value x.given) means) (x.number ∙ same)
+      has_last (overrides_meant justfile overrides.entries) (x.variable.number, x.value) n (is_among (path_of m, x.name) x.value x.variable.number (has_key overrides (path_of m) x.name x.value x.given) means) (x.number ∙ same)
 
-  pub is_meant : (n : Number) (v : Text) → last_of overridden n ≡ Some v → (u : Text) × (last_of (meant justfile overrides.entries) n ≡ Some u)
+  pub is_meant : (n : Number) (v : Text) → last_of overridden n ≡ Some v → (u : Text) × (last_of (overrides_meant justfile overrides.entries) n ≡ Some u)
   is_meant n v e =
       let given = given_in evaluator overrides w in
       let entry = last_there overridden n v e in
@@ -226,7 +226,7 @@ module _ (evaluator : Evaluator) (overrides : Overrides) (w : World) (asts : Ast
   some_held (Some v) e = (v, refl)
 
   -- so is what the analysis saw as overridden in one of these
-  pub held_meant : (j : Justfile) (n : Number) → StandsIn justfile j → has_number (out-Justfile j).overridden n ≡ true → (u : Text) × (last_of (meant justfile overrides.entries) n ≡ Some u)
+  pub held_meant : (j : Justfile) (n : Number) → StandsIn justfile j → has_number (out-Justfile j).overridden n ≡ true → (u : Text) × (last_of (overrides_meant justfile overrides.entries) n ≡ Some u)
   held_meant j n stands has =
       let of = of_module (given_in evaluator overrides w) asts loaded analyzed.built analyzed.compiled justfile (inl refl) j stands in
       let v = some_held (get same_number (out-Justfile j).overridden n) has in

@@ -15,7 +15,7 @@ use Rattle.just_justfile.specs.declared.justfile.Justfile.{Justfile, out-Justfil
 use Rattle.just_module_headers.specs.Files.{ArePlaced, AreRows, asts_in}
 use Rattle.just_module_headers.specs.Joined.{IsJoined}
 use Rattle.just_compiled.specs.Labelled.{with_labels, by_name, slot}
-use Rattle.just_compiled.specs.Justfiles.{AreCompiled, Built, contents_in, notes_said, recipes_in, recipes_of_all}
+use Rattle.just_compiled.specs.Justfiles.{AreCompiled, Built, contents_read, notes_said, recipes_in, recipes_of_all}
 use Rattle.just_compiler.specs.Noted.{notes_from, notes_of_place}
 use Rattle.just_module_tree.specs.Modules.{Forest, Heading, Module, headings_in, AreModules, IsHeading, IsModule, a_module, contents_of, heading_of, no_module}
 use Rattle.just_module_contents.specs.Constants.{Evaluated}
@@ -125,7 +125,7 @@ module _ (given : Given) (entries : List (AstKey × Ast)) (d : AstKey) (files : 
   pub notes_same : (xs : List ℕ) → ((q : ℕ) → In q xs → q < n) → notes_from given.syntax.enabled (asts_in files) xs ≡ notes_said given.syntax.enabled asts (map key_at xs)
   notes_same xs inside = λ i. notes_of (said_at absent_by xs inside i) (by_keys features_by xs inside i) (by_keys warnings_by xs inside i)
 
-  pub contents_same : (xs : List ℕ) → ((q : ℕ) → In q xs → q < n) → contents_from given.syntax.enabled (asts_in files) xs ≡ contents_in given.syntax.enabled asts (map key_at xs)
+  pub contents_same : (xs : List ℕ) → ((q : ℕ) → In q xs → q < n) → contents_from given.syntax.enabled (asts_in files) xs ≡ contents_read given.syntax.enabled asts (map key_at xs)
   contents_same xs inside = λ i. record {
     recipes = recipes_same xs inside i;
     functions = said_at function_by xs inside i;
@@ -193,7 +193,7 @@ module _ (given : Given) (entries : List (AstKey × Ast)) (d : AstKey) (files : 
             let it = around (notes_of_place given.syntax.enabled files joined p).absent_modules (by_name (with_labels js broken.labels)) held in
             let ms = contents_of_place given.syntax.enabled files joined p in
             let meets = meets_at broken.labels broken.named it [] (all ∙ sym (append-nil held)) refl refl in
-            let cs : ms ≡ contents_in given.syntax.enabled asts m.files = contents_same (targets joined.files.items p) files_here in
+            let cs : ms ≡ contents_read given.syntax.enabled asts m.files = contents_same (targets joined.files.items p) files_here in
             let alike = alike_at given entries d files placed rows are paths joined order below joins lists_first k l h in
             let b : BreaksContents (layers_at given h.key.0) (links_by ms it) (told_by ms it) (contents_of_place given.syntax.enabled files joined p) c =
             subst (λ (x : Layers). BreaksContents x (links_by ms it) (told_by ms it) (contents_of_place given.syntax.enabled files joined p) c) (layers_there given entries d files placed rows are paths joined order below joins lists_first k l h e) (broken.broken js there) in

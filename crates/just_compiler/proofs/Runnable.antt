@@ -5,7 +5,7 @@ use Rattle.just_compiled.proofs.Building.{of_module}
 use Rattle.just_compiled.proofs.InOrder.{in_order}
 use Rattle.just_compiled.proofs.Placing.{standing}
 use Rattle.just_compiled.proofs.RecipeNeeds.{has_needs}
-use Rattle.just_compiled.specs.Justfiles.{Built, Made, contents_in}
+use Rattle.just_compiled.specs.Justfiles.{Built, Made, contents_read}
 use Rattle.just_compiler.proofs.Meant.{built_once, rooted}
 use Rattle.just_compiler.specs.Analyzed.{IsAnalyzed}
 use Rattle.just_compiler.specs.Readings.{Overrides, given_in, root_heading}
@@ -61,7 +61,7 @@ module _ (evaluator : Evaluator) (overrides : Overrides) (w : World) (asts : Ast
     ordered = λ j stands.
         let given = given_in evaluator overrides w in
         let of = of_module given asts loaded analyzed.built analyzed.compiled justfile (inl refl) j stands in
-        in_order given.syntax (contents_in given.syntax.enabled asts of.m.files) j of.compiled.variables;
+        in_order given.syntax (contents_read given.syntax.enabled asts of.m.files) j of.compiled.variables;
     numbers = analyzed.numbers;
     needs = needs;
   }

@@ -14,7 +14,7 @@ use Rattle.just_parts.specs.Needs.{same_number}
 use Rattle.just_names.specs.declared.number.Number.{Number}
 use Rattle.just_module_headers.specs.Reading.{reading_of}
 use Rattle.just_module_variables.specs.Overrides.{last_of}
-use Rattle.just_overrides.specs.Reached.{meant}
+use Rattle.just_overrides.specs.Reached.{overrides_meant}
 use Rattle.just_loader.specs.Loaded.{IsLoaded}
 use Rattle.just_loader.specs.Reached.{World}
 use Rattle.just_compiler.specs.Analyzed.{IsAnalyzed}
@@ -34,7 +34,7 @@ pub record IsCompilation (evaluator : Evaluator) (overrides : Overrides) (w : Wo
   pub reading : IsReadingOf w (reading_of w.answers.enabled (get same_ast_key c.asts))
   pub overridden : List (Number × Text)
   pub analyzed : IsAnalyzed (given_in evaluator overrides w) (get same_ast_key c.asts) loaded (root_heading w) c.justfile c.recipes overridden
-  pub overrides_are : (n : Number) → get same_number c.overrides n ≡ last_of (meant c.justfile overrides.entries) n
+  pub overrides_are : (n : Number) → get same_number c.overrides n ≡ last_of (overrides_meant c.justfile overrides.entries) n
 
 -- What a compilation answers: no rule is broken, so that none is named, the files are compiled, each recipe that is named is held, each that is held is that of a module that stands in the root, whose path has no names, each variable and function stands under its own name in its module, no two variables of all modules have one number, the root can run with these recipes, each variable that was seen as overridden has a value, the names of modules rise, and the root's file is held; or a rule that is broken, or a pattern that is past the limits of regular expressions.
 pub record Compiles (evaluator : Evaluator) (overrides : Overrides) (w : World) (result : Result Compilation Error) : Type 0 where

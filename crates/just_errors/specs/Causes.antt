@@ -23,7 +23,7 @@ pub data Cause : Type 0 where
 abbrev pub Keeps : (Cause → Type 0) → Type 0
 Keeps group = (c : Cause) → group c → ⊥
 
--- an error is named; want of memory aside
+-- what an error names is in the group; want of memory aside
 abbrev pub Reports : (Cause → Type 0) → Error → Type 0
 Reports group (error.Load (load.Load path)) = group (NoFile path)
 Reports group (error.Load load.Homedir) = group NoHome

@@ -1,5 +1,5 @@
 -- The names of errors, and what they say.
-use Rattle.std.specs.Prelude.{ℕ, ◌==◌, false, List, [], ◌∷◌, length, ◌++◌, codes, decimal, if◌then◌else◌}
+use Rattle.std.specs.Prelude.{ℕ, ◌==◌, false, List, [], ◌∷◌, length, ◌++◌, Some, None, codes, decimal, if◌then◌else◌}
 use Rattle.just_names.specs.ListFeature.{feature_text}
 use Rattle.just_names.specs.Texts.{joined, text_of}
 use Rattle.just_names.specs.Name.{texts_of_path}
@@ -20,6 +20,8 @@ use Rattle.just_errors.specs.declared.run_error.RunError.{RunError}
 use Rattle.just_errors.specs.declared.run_error.RunError.TheVariants as run
 use Rattle.just_errors.specs.declared.signal.Signal.{Signal}
 use Rattle.just_errors.specs.declared.signal.Signal.TheVariants as signal
+use Rattle.just_errors.specs.declared.status.Status.{Status}
+use Rattle.just_errors.specs.declared.status.Status.TheVariants as status
 use Rattle.just_errors.specs.declared.error.Error.{Error}
 use Rattle.just_errors.specs.declared.error.Error.TheVariants as error
 
@@ -94,7 +96,7 @@ run_name (run.ScriptStart recipe message) = codes "ScriptStart"
 run_name (run.InvalidShebang recipe shebang) = codes "InvalidShebang"
 run_name (run.Interrupted ended) = codes "Interrupted"
 run_name (run.CommandInvoke binary arguments message) = codes "CommandInvoke"
-run_name (run.CommandStatus binary arguments status) = codes "CommandStatus"
+run_name (run.CommandStatus binary arguments ended) = codes "CommandStatus"
 run_name (run.EvalUnknownSubmodule component) = codes "EvalUnknownSubmodule"
 run_name (run.EvalUnknownSubmoduleOrVariable component) = codes "EvalUnknownSubmoduleOrVariable"
 run_name (run.UnstableFeature feature) = codes "UnstableFeature"
@@ -218,6 +220,13 @@ signal_text signal.Interrupt = codes "SIGINT"
 signal_text signal.Quit = codes "SIGQUIT"
 signal_text signal.Terminate = codes "SIGTERM"
 
+-- how a program ended
+abbrev pub status_text : Status → List ℕ
+status_text (status.Code code) = codes "exit status: " ++ signed_decimal code
+status_text (status.NoCode (Some number)) = codes "signal: " ++ signed_decimal number
+status_text (status.NoCode None) = codes "signal: unknown"
+status_text (status.NotStarted reason) = reason
+
 -- what a fault of a run says
 abbrev pub run_text : RunError → List ℕ
 run_text (run.ExcessInvocations invocations) = codes "Expected 1 command-line recipe invocation but found " ++ decimal invocations
@@ -232,7 +241,7 @@ run_text (run.ScriptStart recipe message) = codes "Recipe `" ++ (recipe ++ (code
 run_text (run.InvalidShebang recipe shebang) = codes "Recipe `" ++ (recipe ++ (codes "` has an invalid shebang `" ++ (shebang ++ codes "`")))
 run_text (run.Interrupted ended) = codes "Interrupted by " ++ signal_text ended
 run_text (run.CommandInvoke binary arguments message) = codes "Failed to invoke `" ++ (binary ++ (spaced_text arguments ++ (codes "`: " ++ message)))
-run_text (run.CommandStatus binary arguments status) = codes "Command `" ++ (binary ++ (spaced_text arguments ++ (codes "` failed with exit code " ++ signed_decimal status)))
+run_text (run.CommandStatus binary arguments ended) = codes "Command `" ++ (binary ++ (spaced_text arguments ++ (codes "` failed: " ++ status_text ended)))
 run_text (run.EvalUnknownSubmodule component) = codes "Justfile does not contain submodule `" ++ (component ++ codes "`")
 run_text (run.EvalUnknownSubmoduleOrVariable component) = codes "Justfile does not contain submodule or variable `" ++ (component ++ codes "`")
 run_text (run.UnstableFeature feature) = codes "The feature `" ++ (feature ++ codes "` is unstable, and not enabled")

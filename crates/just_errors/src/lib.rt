@@ -10,6 +10,7 @@ pub mod load_error;
 pub mod refusal;
 pub mod run_error;
 pub mod signal;
+pub mod status;
 mod switch;
 mod wording;
 
@@ -22,5 +23,6 @@ pub use load_error::LoadError;
 pub use refusal::Refusal;
 pub use run_error::RunError;
 pub use signal::Signal;
+pub use status::Status;
 pub use switch::Switch;
 pub use wording::ArgumentRange;

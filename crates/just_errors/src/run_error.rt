@@ -4,6 +4,7 @@ ghost use Rattle.just_errors.specs.Messages.{run_name};
 
 use crate::fault::Fault;
 use crate::signal::Signal;
+use crate::status::Status;
 use crate::wording::{OnLine, Spaced};
 use just_data::{BorrowedText, Sequence, Text};
 use std::fmt;
@@ -72,11 +73,11 @@ pub enum RunError<'src> {
         arguments: Sequence<Text>,
         message: Text,
     },
-    /// A command beside the recipes ended with a status other than 0.
+    /// A command beside the recipes ended without success.
     CommandStatus {
         binary: Text,
         arguments: Sequence<Text>,
-        status: i32,
+        status: Status,
     },
     /// A path to a variable walks through a module that is not there.
     EvalUnknownSubmodule {
@@ -210,7 +211,7 @@ impl<'src> fmt::Display for RunError<'src> {
                 status,
             } => {
                 let rest = Spaced(arguments.as_slice());
-                write!(f, "Command `{binary}{rest}` failed with exit code {status}")
+                write!(f, "Command `{binary}{rest}` failed: {status}")
             }
             RunError::EvalUnknownSubmodule { component } => {
                 write!(f, "Justfile does not contain submodule `{component}`")

@@ -11,8 +11,9 @@ use just_justfile::{Justfile, find_module};
 use just_parts::layers::{Assignment, Error, InvocationError, RunError};
 use std::alloc::{AllocError, Global};
 
-// The module for which an alias stands.
-fn submodule_aliased<'run, 'src>(
+/// The module for which an alias of a module stands: that to which the alias's path leads from the root; none where it has no
+/// alias of the name.
+pub fn submodule_aliased<'run, 'src>(
     root: &'run Justfile<'src>,
     here: &Justfile<'src>,
     name: &str,

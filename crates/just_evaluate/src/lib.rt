@@ -12,6 +12,7 @@ mod outputs;
 mod values;
 mod variables;
 
+pub use destination::submodule_aliased;
 pub use evaluation_target::{EvaluationTarget, EvaluationTargets};
 pub use outputs::write_all;
 pub use values::evaluated_text;

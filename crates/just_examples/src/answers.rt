@@ -13,6 +13,7 @@ use just_examples_answers::evaluated::add_values;
 use just_examples_answers::held::{add_justfile, add_recipes};
 use just_examples_answers::listed::add_listing;
 use just_examples_answers::requests::add_requests;
+use just_examples_answers::runs::add_run;
 use just_examples_answers::variables::add_variable;
 use just_examples_answers::walks::add_walk;
 use just_examples_answers::{add_items, answer_text, read_pairs};
@@ -65,8 +66,8 @@ fn add_evaluated(
     add_requests(evaluation.asked(), text)
 }
 
-// Adds what is asked of a compilation: what it has and what words do, which values are written, what a variable of the root's module refers to and which
-// variables it needs, or what a call gives.
+// Adds what is asked of a compilation: what it has and what words do, what a program in their place comes to, which values are written,
+// what a variable of the root's module refers to and which variables it needs, or what a call gives.
 fn add_compilation<'pairs>(
     text: &mut String,
     alloc: Global,
@@ -96,6 +97,16 @@ fn add_compilation<'pairs>(
             alloc,
             syntax,
             asked,
+            text,
+        ),
+        "command" => add_run(
+            justfile,
+            recipes,
+            overrides,
+            alloc,
+            syntax,
+            asked,
+            &[],
             text,
         ),
         "evaluate" => add_values(justfile, recipes, overrides, alloc, syntax, asked, text),
@@ -150,8 +161,10 @@ fn answer_compiled(
 ) -> Result<String, AllocError> {
     let mut answer = String::new(alloc);
     let mut asked = read_asked(alloc, line)?;
-    if kind == "evaluate" {
-        asked.ask_for_values(alloc)?;
+    match kind {
+        "command" => asked.ask_for_program(alloc)?,
+        "evaluate" => asked.ask_for_values(alloc)?,
+        _ => {}
     }
     match read_sources(alloc, bundle) {
         Ok(sources) => add_sources(&mut answer, alloc, &sources, kind, &asked)?,
@@ -164,9 +177,15 @@ fn answer_compiled(
 pub fn answer(alloc: Global, bundle: &str, question: &str) -> Result<Option<String>, AllocError> {
     let (kind, rest) = question.split_once(' ').unwrap_or((question, ""));
     match kind {
-        "just" | "dump" | "evaluate" | "groups" | "list" | "show" | "tell" | "variable" => {
-            Ok(Some(answer_compiled(alloc, bundle, kind, rest)?))
-        }
+        "just"
+        | "command"
+        | "dump"
+        | "evaluate"
+        | "groups"
+        | "list"
+        | "show"
+        | "tell"
+        | "variable" => Ok(Some(answer_compiled(alloc, bundle, kind, rest)?)),
         "Compilation::root_ast"
         | "Evaluation::assignments"
         | "Evaluation::display"

@@ -2,7 +2,9 @@
 use just_data::{Sequence, Text};
 use just_examples_format::lists::{add_group, before};
 use just_paths::Modulepath;
-use just_run_layers::{Entry, EnvironmentChange, Executor, Groups, ScriptCall, ShellCall};
+use just_run_layers::{
+    CommandCall, Entry, EnvironmentChange, Executor, Groups, ScriptCall, ShellCall,
+};
 use std::alloc::AllocError;
 
 fn add_groups(text: &mut String, groups: &Groups) -> Result<(), AllocError> {
@@ -118,6 +120,19 @@ fn add_script(text: &mut String, call: &ScriptCall) -> Result<(), AllocError> {
     add_changes(text, call.environment.as_slice())
 }
 
+// Adds what a host is handed for a program: the shell that runs it, if one does, the program, and what there is beside it.
+fn add_command(text: &mut String, call: &CommandCall) -> Result<(), AllocError> {
+    if let Some(shell) = &call.shell {
+        write!(text, " {}", shell.command)?;
+        add_parts(text, shell.arguments.as_slice())?;
+        text.push_str(" |")?;
+    }
+    write!(text, " {}", call.binary)?;
+    add_parts(text, call.arguments.as_slice())?;
+    add_folder(text, &call.working_directory)?;
+    add_changes(text, call.environment.as_slice())
+}
+
 // Adds the module whose pairs are asked for: its path, which the root has none of, and its folder.
 fn add_dotenv(text: &mut String, path: &Modulepath, folder: &Text) -> Result<(), AllocError> {
     text.push_str(" dotenv")?;
@@ -142,7 +157,10 @@ fn add_entry(text: &mut String, entry: &Entry) -> Result<(), AllocError> {
             write!(text, " script {} |", call.recipe)?;
             add_script(text, call)
         }
-        Entry::Command(call) => write!(text, " command {}", call.binary),
+        Entry::Command(call) => {
+            text.push_str(" command")?;
+            add_command(text, call)
+        }
         Entry::Confirm { prompt } => write!(text, " confirm {prompt}"),
         Entry::Show { line } => write!(text, " show {line}"),
         Entry::Dotenv {

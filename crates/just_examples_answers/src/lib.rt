@@ -14,7 +14,7 @@ pub mod listed;
 mod readings;
 mod recorders;
 pub mod requests;
-mod runs;
+pub mod runs;
 mod shown;
 pub mod variables;
 pub mod walks;

@@ -3,10 +3,10 @@ use just_bench::{Recorder, Script};
 use just_data::{Sequence, Text};
 use just_examples_format::lists::before;
 use just_examples_format::written::unmarked;
-use just_parts::layers::{Fault, Interpreter, Refusal, Signal};
+use just_parts::layers::{Fault, Interpreter, Refusal, Signal, Status};
 use just_paths::Modulepath;
 use just_run_layers::{
-    CommandCall, Entry, EnvironmentPair, Executor, Host, RunAnswer, ScriptCall, ShellCall, Status,
+    CommandCall, Entry, EnvironmentPair, Executor, Host, RunAnswer, ScriptCall, ShellCall,
 };
 use std::alloc::{AllocError, Global};
 

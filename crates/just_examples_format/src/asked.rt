@@ -1,6 +1,6 @@
-//! What a line `$ just` asks, and a line `$ evaluate`.
+//! What a line `$ just` asks, and lines `$ command` and `$ evaluate`.
 use crate::written::unmarked;
-use just_data::Text;
+use just_data::{Sequence, Text};
 use just_parts::layers::{Config, EvaluateFormat, Subcommand, Verbosity};
 use just_paths::Modulepath;
 use std::alloc::{AllocError, Global};
@@ -30,6 +30,23 @@ fn module_path(alloc: Global, names: &str) -> Result<Modulepath, AllocError> {
         }
     }
     Ok(path)
+}
+
+// The words behind a word `shell`, where they begin with one.
+fn behind_shell(words: &[String]) -> Option<&[String]> {
+    let (first, rest) = words.split_first()?;
+    if first.as_str() == "shell" {
+        return Some(rest);
+    }
+    None
+}
+
+fn texts_of(alloc: Global, words: &[String]) -> Result<Sequence<Text>, AllocError> {
+    let mut texts = Sequence::new(alloc);
+    for word in words {
+        texts.push(Text::from_str(alloc, word.as_str())?)?;
+    }
+    Ok(texts)
 }
 
 /// A root, a configuration and words.
@@ -96,6 +113,24 @@ impl Asked {
             EvaluateFormat::Just
         };
         self.config.subcommand = Subcommand::Evaluate { format, path };
+        Ok(())
+    }
+
+    /// Lets the configuration ask for a program, which the first word is, with the others as its arguments; a word `shell` before
+    /// it says that a shell runs it.
+    pub fn ask_for_program(&mut self, alloc: Global) -> Result<(), AllocError> {
+        let behind = behind_shell(self.words.as_slice());
+        let words = behind.unwrap_or(self.words.as_slice());
+        let Some((binary, rest)) = words.split_first() else {
+            return Ok(());
+        };
+        let subcommand = Subcommand::Command {
+            binary: Text::from_str(alloc, binary.as_str())?,
+            arguments: texts_of(alloc, rest)?,
+        };
+        let is_shell = behind.is_some();
+        self.config.shell_command = is_shell;
+        self.config.subcommand = subcommand;
         Ok(())
     }
 

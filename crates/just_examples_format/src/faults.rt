@@ -255,7 +255,7 @@ fn add_run(text: &mut String, error: &RunError) -> Result<(), AllocError> {
             for argument in arguments.as_slice() {
                 write!(text, " {argument}")?;
             }
-            write!(text, ", status {status}")
+            write!(text, ", {status}")
         }
         RunError::EvalUnknownSubmodule { component }
         | RunError::EvalUnknownSubmoduleOrVariable { component } => {

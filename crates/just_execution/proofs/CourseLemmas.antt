@@ -13,7 +13,7 @@ use Rattle.just_execution.specs.declared.pair.Pair.{Pair}
 use Rattle.just_execution.specs.Frames.{walk_at, with_calls, under, continuation_from, calls_of, IsSoundFrame, AreSoundFrames, state_of, IsSound, IsLighter, IsOpened, continuation_of}
 use Rattle.just_execution.specs.Homes.{IsCallable, IsServed}
 use Rattle.just_execution.specs.declared.task.Task.{Task}
-use Rattle.just_execution.specs.Pairs.{AllBelow, put, table_of}
+use Rattle.just_execution.specs.Pairs.{AllBelow, put_in, table_of}
 use Rattle.just_execution.specs.Walking.{TaskInteractions, State, add_at, counted, opened, fresh_steps, ran}
 use Rattle.just_execution.proofs.FrameLemmas.{opened-left}
 use Rattle.just_execution.proofs.WeightLemmas.{block-lighter, taken-lighter}
@@ -125,7 +125,7 @@ called-sound P Q old new t h ps state frames callable served callables sound =
     }
 
 -- the pair of a task that was executed is put in, and its subsequents are called
-pub block-last : (of_task : TaskInteractions) (old : Course) (t : Task) (table : List Pair) (ts : List Task) (u : Interaction State) → table_of table ≡ put (table_of old.current.table) t.pair →
+pub block-last : (of_task : TaskInteractions) (old : Course) (t : Task) (table : List Pair) (ts : List Task) (u : Interaction State) → table_of table ≡ put_in (table_of old.current.table) t.pair →
     u ≡ and_then (fresh_steps (walk_at of_task) ts old.calls.items) (λ calls. continuation_from of_task old.frames.items (under (record { number = old.current.number; table = table }) calls)) →
     u ≡ and_then (fresh_steps (walk_at of_task) ts old.calls.items) (λ calls. continuation_from of_task old.frames.items (ran (state_of old) t calls))
 block-last of_task old t table ts u is h =

@@ -13,13 +13,13 @@ use Rattle.just_run_layers.specs.Interactions.{Question, ToEvaluator, Interactio
 use Rattle.just_parts.specs.Syntax.{SyntaxAnswers}
 use Rattle.just_ast_expressions.specs.declared.expression.Expression.{Expression}
 use Rattle.just_recipe_body.specs.Attributes.{first_said}
-use Rattle.just_recipe_body.specs.Body.{BodyContents, around, name_of, string_steps, text_or, unevaluated}
+use Rattle.just_recipe_body.specs.Body.{BodyContents, surroundings_of, body_name, string_steps, text_or, unevaluated}
 use Rattle.just_recipe_body.specs.Confirmation.{confirm_by, confirm_steps, confirmation_in, prompt_steps, said_prompt}
 use Rattle.just_execution.specs.Arguments.{argument_steps, dependencies_steps, dependency_steps, gathered, group_steps, groups_steps, tasks_with, texts_given, texts_steps, valued_answered}
 use Rattle.just_execution.specs.Expansion.{Part, Prepare, Block}
 use Rattle.just_execution.specs.TaskInteractions.{IsAlike, ask_in, ask_steps, bound_answered, consent_by, consent_steps, consented, held_steps, interactions_of, prepare_steps, prior_steps, surrounded}
 use Rattle.just_execution.specs.Pairs.{task}
-use Rattle.just_execution.specs.Run.{Each, PriorsIgnoreFlag, PartIgnoresFlag, parts, priors_in, subsequents_by}
+use Rattle.just_execution.specs.Run.{Each, PriorsIgnoreFlag, PartIgnoresFlag, run_parts, priors_in, subsequents_by}
 use Rattle.just_execution.specs.Scene.{ModuleContents, Scene}
 use Rattle.just_execution.specs.declared.pair.Pair.{Pair}
 use Rattle.just_execution.specs.declared.task.Task.{Task}
@@ -69,16 +69,16 @@ module _ (f : Question → Answer) where
       by flag = consent_by syntax (task flag p) r m h
 
       prompt-even : (e : Expression) → result_under f (string_steps (by true) e) ≡ result_under f (string_steps (by false) e)
-      prompt-even e = ap (λ answer. result_under f (text_or unevaluated answer)) (alike (StringOf (around (by true)) e))
+      prompt-even e = ap (λ answer. result_under f (text_or unevaluated answer)) (alike (StringOf (surroundings_of (by true)) e))
 
       confirmed-even : (o : Option (Option Expression)) → result_under f (confirm_by (by true) o) ≡ result_under f (confirm_by (by false) o)
       confirmed-even None = refl
       confirmed-even (Some None) = refl
       confirmed-even (Some (Some e)) = same-then (string_steps (by true) e) (string_steps (by false) e) (λ text. prompt_steps (said_prompt text)) (λ text. prompt_steps (said_prompt text)) (prompt-even e) (λ text. refl)
 
-      asked-even : (yes : Bool) → result_under f (cond yes (Return tt) (and_then (confirm_steps (by true)) (consented (name_of (by true))))) ≡ result_under f (cond yes (Return tt) (and_then (confirm_steps (by false)) (consented (name_of (by false)))))
+      asked-even : (yes : Bool) → result_under f (cond yes (Return tt) (and_then (confirm_steps (by true)) (consented (body_name (by true))))) ≡ result_under f (cond yes (Return tt) (and_then (confirm_steps (by false)) (consented (body_name (by false)))))
       asked-even true = refl
-      asked-even false = same-then (confirm_steps (by true)) (confirm_steps (by false)) (consented (name_of (by true))) (consented (name_of (by false)))
+      asked-even false = same-then (confirm_steps (by true)) (confirm_steps (by false)) (consented (body_name (by true))) (consented (body_name (by false)))
           (confirmed-even (first_said confirmation_in r.attributes)) (λ yes. refl)
 
       consent-even : result_under f (consent_steps (by true)) ≡ result_under f (consent_steps (by false))
@@ -112,4 +112,4 @@ module _ (f : Question → Answer) where
 
     pub leaves-even : (scene : Scene) (n : ℕ) (tops : List Task) → PriorsIgnoreFlag (interactions_of scene) f n tops
     leaves-even scene zero tops = tt
-    leaves-even scene (suc n) tops = parts-even scene (PriorsIgnoreFlag (interactions_of scene) f n) (leaves-even scene n) (parts (interactions_of scene) f (suc n) tops)
+    leaves-even scene (suc n) tops = parts-even scene (PriorsIgnoreFlag (interactions_of scene) f n) (leaves-even scene n) (run_parts (interactions_of scene) f (suc n) tops)

@@ -12,7 +12,7 @@ use Rattle.just_execution.specs.Lower.{IsLower}
 use Rattle.just_execution.specs.Reports.{IsFirstAsked}
 use Rattle.just_execution.specs.declared.task.Task.{Task}
 use Rattle.just_execution.specs.Pairs.{same_pair, key, AllBelow}
-use Rattle.just_execution.specs.Run.{priors_by, parts, PriorsIgnoreFlag}
+use Rattle.just_execution.specs.Run.{priors_by, run_parts, PriorsIgnoreFlag}
 use Rattle.just_execution.specs.Walking.{TaskInteractions}
 use Rattle.just_execution.proofs.Walks.{blocks, walk, walks}
 use Rattle.just_execution.proofs.Keeps.{Exact}
@@ -83,14 +83,14 @@ module _ {A K : Type 0} (same : K → K → Bool) (e : Exact same) (name : A →
   one-first (z ∷ zs) x y (inr h) (inr k) c = one-first zs x y (other (name z) (firsts_by same name zs) x h).1 (other (name z) (firsts_by same name zs) y k).1 c
 
 module _ (of_task : TaskInteractions) (lower : IsLower of_task) (f : Question → Answer) where
-  asked-part : (n : ℕ) (ts : List Task) → AllBelow n ts → PriorsIgnoreFlag of_task f n ts → (t : Task) → In (Block t) (parts of_task f n ts) → In (Prepare t) (parts of_task f n ts)
+  asked-part : (n : ℕ) (ts : List Task) → AllBelow n ts → PriorsIgnoreFlag of_task f n ts → (t : Task) → In (Block t) (run_parts of_task f n ts) → In (Prepare t) (run_parts of_task f n ts)
   asked-part zero [] b s t i = absurd i
   asked-part zero (u ∷ us) b s t i = let low : u.pair.recipe < 0 = All-head (λ (t : Task). t.pair.recipe < 0) u us b in absurd (omega arith)
   asked-part (suc n) ts b s t i =
       let is = walk-parts of_task lower f (PriorsIgnoreFlag of_task f n) (suc n) ts (below-all (suc n) ts b) s in
       subst (In (Prepare t)) is (all-asked same_pair key (priors_by of_task f) (suc n) [] ts t (subst (In (Block t)) (sym is) i))
 
-  pub first-asked : (n : ℕ) (ts : List Task) → AllBelow n ts → PriorsIgnoreFlag of_task f n ts → (t : Task) → In (Block t) (parts of_task f n ts) → IsFirstAsked of_task f n ts t
+  pub first-asked : (n : ℕ) (ts : List Task) → AllBelow n ts → PriorsIgnoreFlag of_task f n ts → (t : Task) → In (Block t) (run_parts of_task f n ts) → IsFirstAsked of_task f n ts t
   first-asked n ts b s t i = record {
     asked = asked-part n ts b s t i;
     alone = λ u asked same.

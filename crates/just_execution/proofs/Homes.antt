@@ -15,7 +15,7 @@ use Rattle.just_run_layers.specs.Host.{Answer}
 use Rattle.just_run_layers.specs.Interactions.{both, Log, log_of}
 use Rattle.just_run_layers.proofs.InteractionLemmas.{took-gives}
 use Rattle.just_execution.specs.Account.{AreNamed}
-use Rattle.just_execution.specs.Homes.{AllHaveModuleScope, IsCallable, HasModuleScope, IsServed, Modules, ServesIn, module_at}
+use Rattle.just_execution.specs.Homes.{AllHaveModuleScope, IsCallable, HasModuleScope, IsServed, Modules, ServesIn, module_scope_at}
 use Rattle.just_execution.specs.TaskInteractions.{AsksAlone, Prepares, ask_steps, follow_steps}
 use Rattle.just_execution.specs.Pairs.{AllBelow, at_place, needed}
 use Rattle.just_recipes.specs.Places.{place_of}
@@ -98,16 +98,16 @@ module _ (answers : SyntaxAnswers) (modules : Modules) (rs : List (Recipe Depend
 one-value : {A : Type 0} (o : Option A) (x y : A) → o ≡ Some x → o ≡ Some y → x ≡ y
 one-value o x y h k = cc
 
-pub contents-there : (answers : SyntaxAnswers) (modules : Modules) (b : Bool) (rs : List (Recipe Dependency)) (r : Recipe Dependency) (m : ModuleScope) → module_at modules r.module_path ≡ Some m →
+pub contents-there : (answers : SyntaxAnswers) (modules : Modules) (b : Bool) (rs : List (Recipe Dependency)) (r : Recipe Dependency) (m : ModuleScope) → module_scope_at modules r.module_path ≡ Some m →
     (scene_with answers modules (running b rs)).modules (as_run b r).module_path ≡ Some (contents_of m)
-contents-there answers modules b rs r m there = ap (λ path. contents_found (module_at modules path)) (same-module r b) ∙ ap contents_found there
+contents-there answers modules b rs r m there = ap (λ path. contents_found (module_scope_at modules path)) (same-module r b) ∙ ap contents_found there
 
 module _ (answers : SyntaxAnswers) (modules : Modules) (rs : List (Recipe Dependency)) (t : Task) (h : Held) (m : ModuleScope) (r : Recipe Dependency) (at : slice_get rs t.pair.recipe ≡ Some r)
-    (there : module_at modules r.module_path ≡ Some m) where
+    (there : module_scope_at modules r.module_path ≡ Some m) where
   pub is-served : ServesIn answers m r h → IsServed answers modules rs t h
   is-served serves = λ n s here found.
       let same : r ≡ s = one-value (slice_get rs t.pair.recipe) r s at here in
-      let own : m ≡ n = one-value (module_at modules s.module_path) m n (subst (λ (r : Recipe Dependency). module_at modules r.module_path ≡ Some m) same there) found in
+      let own : m ≡ n = one-value (module_scope_at modules s.module_path) m n (subst (λ (r : Recipe Dependency). module_scope_at modules r.module_path ≡ Some m) same there) found in
       subst (λ m. ServesIn answers m s h) own (subst (λ (r : Recipe Dependency). ServesIn answers m r h) same serves)
 
   pub serves-in : IsServed answers modules rs t h → ServesIn answers m r h

@@ -14,7 +14,7 @@ use Rattle.just_execution.specs.declared.pair.Pair.{Pair}
 use Rattle.just_execution.specs.Firsts.{has}
 use Rattle.just_execution.specs.declared.task.Task.{Task}
 use Rattle.just_execution.specs.Pairs.{same_pair, prior_dependencies}
-use Rattle.just_execution.specs.Account.{AskedTask, OnceTables, Empty, Asked, Began, own, begun, executions, AreIn, known, pairs_asked, AreNamed, FitsTables, Complete, prior_count, asked_count, if_any, counts_below, IsFullBelow}
+use Rattle.just_execution.specs.Account.{AskedTask, OnceTables, Empty, Asked, Began, own, begun, executions, AreIn, may_be_asked, pairs_asked, AreNamed, FitsTables, Complete, prior_count, asked_count, if_any, counts_below, IsFullBelow}
 use Rattle.just_execution.specs.Walking.{add_at}
 use Rattle.just_execution.proofs.Keeps.{has-append}
 use Rattle.just_execution.proofs.Pairs.{pair-exact}
@@ -142,24 +142,24 @@ pub executions-append : (rs : List (Recipe Dependency)) (xs ys : List Task) → 
 executions-append rs xs ys = flat_map-append _ xs ys
 
 -- what is known grows with what was asked
-pub known-append : (tops : List Task) (a b : List AskedTask) → known tops (a ++ b) ≡ known tops a ++ flat_map (λ (a : AskedTask). a.priors) b
+pub known-append : (tops : List Task) (a b : List AskedTask) → may_be_asked tops (a ++ b) ≡ may_be_asked tops a ++ flat_map (λ (a : AskedTask). a.priors) b
 known-append tops a b = ap (λ x. tops ++ x) (flat_map-append (λ (a : AskedTask). a.priors) a b)
     ∙ sym (append_assoc tops (flat_map (λ (a : AskedTask). a.priors) a) (flat_map (λ (a : AskedTask). a.priors) b))
 
-pub known-more : (tops : List Task) (a b : List AskedTask) (t : Task) → In t (known tops a) → In t (known tops (a ++ b))
-known-more tops a b t h = subst (λ x. In t x) (sym (known-append tops a b)) (in_left t (known tops a) (flat_map (λ (a : AskedTask). a.priors) b) h)
+pub known-more : (tops : List Task) (a b : List AskedTask) (t : Task) → In t (may_be_asked tops a) → In t (may_be_asked tops (a ++ b))
+known-more tops a b t h = subst (λ x. In t x) (sym (known-append tops a b)) (in_left t (may_be_asked tops a) (flat_map (λ (a : AskedTask). a.priors) b) h)
 
 All-In : {A : Type 0} → (qs xs : List A) → ((q : A) → In q qs → In q xs) → All (λ (q : A). In q xs) qs
 All-In {A} [] xs h = All-nil (λ (q : A). In q xs)
 All-In {A} (q ∷ qs) xs h = All-cons (λ (q : A). In q xs) q qs (h q (inl refl)) (All-In qs xs (λ r i. h r (inr i)))
 
 -- the priors of a task just asked are known
-pub known-priors : (tops : List Task) (asked : List AskedTask) (t : Task) (ps : List Task) → All (λ (q : Task). In q (known tops (asked ++ with_priors t ps ∷ []))) ps
-known-priors tops asked t ps = All-In ps (known tops (asked ++ with_priors t ps ∷ [])) (λ q i.
-    subst (λ x. In q x) (sym (known-append tops asked (with_priors t ps ∷ []))) (in_right q (known tops asked) (ps ++ []) (in_left q ps [] i)))
+pub known-priors : (tops : List Task) (asked : List AskedTask) (t : Task) (ps : List Task) → All (λ (q : Task). In q (may_be_asked tops (asked ++ with_priors t ps ∷ []))) ps
+known-priors tops asked t ps = All-In ps (may_be_asked tops (asked ++ with_priors t ps ∷ [])) (λ q i.
+    subst (λ x. In q x) (sym (known-append tops asked (with_priors t ps ∷ []))) (in_right q (may_be_asked tops asked) (ps ++ []) (in_left q ps [] i)))
 
-pub known-all : (tops : List Task) → All (λ (q : Task). In q (known tops [])) tops
-known-all tops = All-In tops (known tops []) (λ q i. in_left q tops [] i)
+pub known-all : (tops : List Task) → All (λ (q : Task). In q (may_be_asked tops [])) tops
+known-all tops = All-In tops (may_be_asked tops []) (λ q i. in_left q tops [] i)
 
 -- how many may be asked
 length-append : {A : Type 0} (xs ys : List A) → length (xs ++ ys) ≡ length xs + length ys
@@ -171,19 +171,19 @@ length-asked Empty = refl
 length-asked (Asked a r) = length-append a.priors (flat_map (λ (a : AskedTask). a.priors) (asks r)) ∙ ap (λ n. length a.priors + n) (length-asked r)
 length-asked (Began t ps ss b r) = length-asked r
 
-pub length-known : (tops : List Task) (before : List AskedTask) (t : OnceTables) → length (known tops (before ++ asks t)) ≡ length (known tops before) + asked_count t
-length-known tops before t = ap (λ x. length x) (known-append tops before (asks t)) ∙ length-append (known tops before) (flat_map (λ (a : AskedTask). a.priors) (asks t))
-    ∙ ap (λ n. length (known tops before) + n) (length-asked t)
+pub length-known : (tops : List Task) (before : List AskedTask) (t : OnceTables) → length (may_be_asked tops (before ++ asks t)) ≡ length (may_be_asked tops before) + asked_count t
+length-known tops before t = ap (λ x. length x) (known-append tops before (asks t)) ∙ length-append (may_be_asked tops before) (flat_map (λ (a : AskedTask). a.priors) (asks t))
+    ∙ ap (λ n. length (may_be_asked tops before) + n) (length-asked t)
 
-pub length-known_one : (tops : List Task) (before : List AskedTask) (a : AskedTask) → length (known tops (before ++ a ∷ [])) ≡ length (known tops before) + length a.priors
+pub length-known_one : (tops : List Task) (before : List AskedTask) (a : AskedTask) → length (may_be_asked tops (before ++ a ∷ [])) ≡ length (may_be_asked tops before) + length a.priors
 length-known_one tops before a =
-    let e : length (known tops before) + (length a.priors + 0) ≡ length (known tops before) + length a.priors = omega arith in
+    let e : length (may_be_asked tops before) + (length a.priors + 0) ≡ length (may_be_asked tops before) + length a.priors = omega arith in
     length-known tops before (Asked a Empty) ∙ e
 
-pub length-known_none : (tops : List Task) → length (known tops []) ≡ length tops
+pub length-known_none : (tops : List Task) → length (may_be_asked tops []) ≡ length tops
 length-known_none tops = ap (λ x. length x) (append-nil tops)
 
-pub length-known_tops : (tops : List Task) (t : OnceTables) → length (known tops (asks t)) ≡ length tops + asked_count t
+pub length-known_tops : (tops : List Task) (t : OnceTables) → length (may_be_asked tops (asks t)) ≡ length tops + asked_count t
 length-known_tops tops t = length-known tops [] t ∙ ap (λ n. n + asked_count t) (length-known_none tops)
 
 -- those asked and done

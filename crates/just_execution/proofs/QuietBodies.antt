@@ -7,14 +7,14 @@ use Rattle.just_names.specs.Texts.{Text}
 use Rattle.just_run_layers.specs.Host.{Answer, Done, Given, Valued, Scoped, Bound, Paired, Changed, Ran, Refused}
 use Rattle.just_run_layers.specs.Interactions.{Return, Interaction, and_then}
 use Rattle.just_recipe_body.specs.Attributes.{changes_directory, continues_on, directory_of, first_said, timestamp_of}
-use Rattle.just_recipe_body.specs.Body.{BodyContents, changes_or, directory_steps, environment_steps, format_steps, given, joined_steps, line_steps, prepare_steps, prepared, said_format_steps, show_steps, string_steps, telling_steps, text_or, time_steps, unevaluated, untimed}
+use Rattle.just_recipe_body.specs.Body.{BodyContents, changes_or, directory_steps, environment_steps, format_steps, concluded, joined_steps, line_steps, prepare_steps, prepared, said_format_steps, show_steps, string_steps, telling_steps, text_or, time_steps, unevaluated, untimed}
 use Rattle.just_recipe_body.specs.Confirmation.{confirm_by, confirm_steps, confirmation_in, line_answered, prompt_steps, said_prompt}
 use Rattle.just_recipe_body.specs.Judging.{judged}
 use Rattle.just_recipe_body.specs.declared.body.Preparation.{Preparation}
 use Rattle.just_recipe_body.specs.declared.judgement.Next.{Next}
 use Rattle.just_recipe_body.specs.declared.judgement.Next.TheVariants.{Onward, Ended}
 use Rattle.just_recipe_body.specs.declared.judgement.Program.TheVariants as program
-use Rattle.just_shell_body.specs.Lines.{command_of, group_command_steps, groups, is_skipped, text_steps, trimmed}
+use Rattle.just_shell_body.specs.Lines.{command_of_group, group_command_steps, groups, is_skipped, lines_text_steps, trimmed}
 use Rattle.just_shell_body.specs.ShellBody.{call_steps, command_steps, group_steps, groups_steps, is_shown, lines_steps, shell_answered, shell_call, shell_call_steps, shell_steps, show_command_steps, shown_command, teller_of, timed_steps, unless_dry_steps, unless_ended}
 use Rattle.just_shell_body.specs.declared.lines.GroupCommand.{GroupCommand}
 use Rattle.just_execution.proofs.Quiet.{Quiet, failed-not, quiet-then}
@@ -24,7 +24,7 @@ pub quiet-cond : {A : Type 0} (test : Bool) (s u : Interaction A) → Quiet s �
 quiet-cond true s u h l = h
 quiet-cond false s u h l = l
 
-pub quiet-given : {A : Type 0} (o : Result A RunError) → Quiet (given o)
+pub quiet-given : {A : Type 0} (o : Result A RunError) → Quiet (concluded o)
 quiet-given (Ok x) = tt
 quiet-given (Err e) = failed-not e
 
@@ -117,18 +117,18 @@ module _ (b : BodyContents) where
   confirm-quiet = confirmed-quiet (first_said confirmation_in b.recipe.attributes)
 
   -- a shell body
-  texts-quiet : (continued : Bool) (text : Text) (lines : List Line) → Quiet (text_steps b continued text lines)
+  texts-quiet : (continued : Bool) (text : Text) (lines : List Line) → Quiet (lines_text_steps b continued text lines)
   texts-quiet continued text [] = tt
   texts-quiet continued text (line ∷ lines) =
-      quiet-then (line_steps b line continued) (λ part. text_steps b true (text ++ trimmed (b.syntax.is_continuation line) part) lines) (line-quiet line continued)
+      quiet-then (line_steps b line continued) (λ part. lines_text_steps b true (text ++ trimmed (b.syntax.is_continuation line) part) lines) (line-quiet line continued)
       (λ part. texts-quiet true (text ++ trimmed (b.syntax.is_continuation line) part) lines)
 
   group_command-quiet : (lines : List Line) → Quiet (group_command_steps b lines)
   group_command-quiet [] = tt
   group_command-quiet (line ∷ lines) =
-      let made : Text → Interaction (Option GroupCommand) = λ text. Return (command_of (b.syntax.sigils line b.context.settings) line lines text) in
-      quiet-cond (is_skipped b.syntax b.context.settings line) (Return None) (and_then (text_steps b false [] (line ∷ lines)) made) tt
-      (quiet-then (text_steps b false [] (line ∷ lines)) made (texts-quiet false [] (line ∷ lines)) (λ text. tt))
+      let made : Text → Interaction (Option GroupCommand) = λ text. Return (command_of_group (b.syntax.sigils line b.context.settings) line lines text) in
+      quiet-cond (is_skipped b.syntax b.context.settings line) (Return None) (and_then (lines_text_steps b false [] (line ∷ lines)) made) tt
+      (quiet-then (lines_text_steps b false [] (line ∷ lines)) made (texts-quiet false [] (line ∷ lines)) (λ text. tt))
 
   module _ (prep : Preparation) where
     call-quiet : (command : GroupCommand) → Quiet (call_steps b prep command)

@@ -5,9 +5,9 @@ use Rattle.just_names.specs.Texts.{Text}
 use Rattle.just_paths.specs.declared.modulepath.Modulepath.{Modulepath}
 use Rattle.just_run_layers.specs.Interactions.{Return, and_then}
 use Rattle.just_recipe.specs.Script.{is_script}
-use Rattle.just_recipe_body.specs.Body.{BodyContents, is_loquacious, name_of, show_steps}
+use Rattle.just_recipe_body.specs.Body.{BodyContents, is_loquacious, body_name, show_steps}
 use Rattle.just_recipe_body.specs.Confirmation.{confirm_steps}
-use Rattle.just_recipe_run.specs.RecipeRun.{body_steps, explain_steps, explained, explained_steps, recipe_steps, running, running_steps}
+use Rattle.just_recipe_run.specs.RecipeRun.{body_steps, explain_steps, explained, explained_steps, recipe_steps, running_text, running_steps}
 use Rattle.just_shell_body.specs.ShellBody.{shell_steps}
 use Rattle.just_script_body.specs.ScriptBody.{script_steps}
 use Rattle.just_execution.specs.TaskInteractions.{consent_steps, consented}
@@ -17,7 +17,7 @@ use Rattle.just_execution.proofs.QuietScripts.{script_body-quiet}
 
 running-quiet : (loquacious : Bool) (o : Option Modulepath) → Quiet (running_steps loquacious o)
 running-quiet loquacious None = tt
-running-quiet loquacious (Some path) = quiet-cond loquacious (show_steps (running path)) (Return tt) (refl, λ answer. tt) tt
+running-quiet loquacious (Some path) = quiet-cond loquacious (show_steps (running_text path)) (Return tt) (refl, λ answer. tt) tt
 
 explained-quiet : (explain : Bool) (o : Option Text) → Quiet (explained_steps explain o)
 explained-quiet explain None = tt
@@ -35,5 +35,5 @@ module _ (b : BodyContents) where
       (λ _. quiet-cond (is_script b.recipe b.context.settings) (script_steps b) (shell_steps b) (script_body-quiet b) (shell_body-quiet b)))
 
   pub consent-quiet : Quiet (consent_steps b)
-  consent-quiet = quiet-cond b.context.config.yes (Return tt) (and_then (confirm_steps b) (consented (name_of b))) tt
-      (quiet-then (confirm_steps b) (consented (name_of b)) (confirm-quiet b) (consented-quiet (name_of b)))
+  consent-quiet = quiet-cond b.context.config.yes (Return tt) (and_then (confirm_steps b) (consented (body_name b))) tt
+      (quiet-then (confirm_steps b) (consented (body_name b)) (confirm-quiet b) (consented-quiet (body_name b)))

@@ -6,11 +6,11 @@ use Rattle.just_run_layers.specs.declared.calls.Executor.{Executor}
 use Rattle.just_run_layers.specs.Host.{Answer, Done, Given, Valued, Scoped, Bound, Paired, Changed, Ran, Refused}
 use Rattle.just_run_layers.specs.Interactions.{Return, and_then}
 use Rattle.just_recipe_body.specs.Attributes.{continues_on}
-use Rattle.just_recipe_body.specs.Body.{BodyContents, directory_steps, environment_steps, format_steps, given, line_steps, time_steps}
+use Rattle.just_recipe_body.specs.Body.{BodyContents, directory_steps, environment_steps, format_steps, concluded, line_steps, time_steps}
 use Rattle.just_recipe_body.specs.Judging.{judged, no_marks}
 use Rattle.just_recipe_body.specs.declared.judgement.Program.TheVariants as program
 use Rattle.just_script_body.specs.Executors.{executor_of}
-use Rattle.just_script_body.specs.ScriptBody.{begin_steps, call_steps, executed_steps, is_grandiloquent, is_shown, run_steps, script_answered, script_call, script_call_steps, script_steps, show_all_steps, show_if_steps, show_time_steps, shown_call_steps, shown_steps, teller_of, texts_steps, unless_dry_steps}
+use Rattle.just_script_body.specs.ScriptBody.{heading_steps, call_steps, executed_steps, is_grandiloquent, is_shown, script_run_steps, script_answered, script_call, script_call_steps, script_steps, show_all_steps, show_if_steps, show_time_steps, shown_call_steps, shown_steps, teller_of, texts_steps, unless_dry_steps}
 use Rattle.just_execution.proofs.Quiet.{Quiet, quiet-then}
 use Rattle.just_execution.proofs.QuietBodies.{directory-quiet, environment-quiet, format-quiet, line-quiet, quiet-cond, quiet-given, time-quiet}
 use Rattle.just_execution.proofs.Standing.{memory-not}
@@ -32,14 +32,14 @@ module _ (b : BodyContents) where
   answered-quiet (Paired pairs) = memory-not
   answered-quiet (Changed changes) = memory-not
   answered-quiet (Ran answer) =
-      quiet-then (given (judged program.Script (teller_of b) (continues_on b.recipe) no_marks answer)) (λ next. Return tt) (quiet-given (judged program.Script (teller_of b) (continues_on b.recipe) no_marks answer)) (λ next. tt)
+      quiet-then (concluded (judged program.Script (teller_of b) (continues_on b.recipe) no_marks answer)) (λ next. Return tt) (quiet-given (judged program.Script (teller_of b) (continues_on b.recipe) no_marks answer)) (λ next. tt)
   answered-quiet (Refused message) = memory-not
 
   told-quiet : (time : Option Text) → Quiet (show_time_steps b time)
   told-quiet None = tt
   told-quiet (Some time) = (refl, λ answer. tt)
 
-  begin-quiet : Quiet (begin_steps b)
+  begin-quiet : Quiet (heading_steps b)
   begin-quiet = quiet-then (format_steps b) (λ format. and_then (time_steps format) (show_time_steps b)) (format-quiet b)
       (λ format. quiet-then (time_steps format) (show_time_steps b) (time-quiet format) told-quiet)
 
@@ -53,14 +53,14 @@ module _ (b : BodyContents) where
       quiet-then (show_if_steps (is_grandiloquent b.context.config.verbosity) texts) (λ _. call_steps b executor texts directory) (shown-quiet (is_grandiloquent b.context.config.verbosity) texts)
       (λ _. quiet-then (environment_steps b) (λ changes. script_call_steps b (script_call b executor texts directory changes)) (environment-quiet b) (λ changes. (refl, answered-quiet)))
 
-  run-quiet : (texts : List Text) → Quiet (run_steps b texts)
-  run-quiet texts = quiet-then (given (executor_of b texts)) (executed_steps b texts) (quiet-given (executor_of b texts))
+  run-quiet : (texts : List Text) → Quiet (script_run_steps b texts)
+  run-quiet texts = quiet-then (concluded (executor_of b texts)) (executed_steps b texts) (quiet-given (executor_of b texts))
       (λ executor. quiet-then (directory_steps b) (shown_call_steps b executor texts) (directory-quiet b) (call-quiet texts executor))
 
   lines-quiet : (texts : List Text) → Quiet (shown_steps b texts)
   lines-quiet texts = quiet-then (show_if_steps (is_shown b) texts) (λ _. unless_dry_steps b texts) (shown-quiet (is_shown b) texts)
-      (λ _. quiet-cond b.context.config.dry_run (Return tt) (run_steps b texts) tt (run-quiet texts))
+      (λ _. quiet-cond b.context.config.dry_run (Return tt) (script_run_steps b texts) tt (run-quiet texts))
 
   pub script_body-quiet : Quiet (script_steps b)
-  script_body-quiet = quiet-then (begin_steps b) (λ _. and_then (texts_steps b b.recipe.body) (shown_steps b)) begin-quiet
+  script_body-quiet = quiet-then (heading_steps b) (λ _. and_then (texts_steps b b.recipe.body) (shown_steps b)) begin-quiet
       (λ _. quiet-then (texts_steps b b.recipe.body) (shown_steps b) (texts-quiet b.recipe.body) lines-quiet)

@@ -12,10 +12,10 @@ use Rattle.just_recipe.specs.declared.recipe.Recipe.{Recipe}
 use Rattle.just_run_layers.specs.Host.{Answer}
 use Rattle.just_run_layers.specs.Interactions.{Log, executed_in, Question, Interaction, Return, Fail, and_then, HasTrace}
 use Rattle.just_execution.specs.declared.pair.Pair.{Pair}
-use Rattle.just_execution.specs.Account.{AskedTask, OnceTables, Empty, Asked, Began, own, begun, executions, AreIn, known, AreNamed, AskFits, RunFits, FitsTables, Complete, prior_count, asked_count, counts_below, counts, IsFullBelow, IsFull}
+use Rattle.just_execution.specs.Account.{AskedTask, OnceTables, Empty, Asked, Began, own, begun, executions, AreIn, may_be_asked, AreNamed, AskFits, RunFits, FitsTables, Complete, prior_count, asked_count, counts_below, counts, IsFullBelow, IsFull}
 use Rattle.just_execution.specs.Firsts.{has}
 use Rattle.just_execution.specs.declared.task.Task.{Task}
-use Rattle.just_execution.specs.Pairs.{OnceTable, put, same_pair, prior_dependencies, subsequent_dependencies}
+use Rattle.just_execution.specs.Pairs.{OnceTable, put_in, same_pair, prior_dependencies, subsequent_dependencies}
 use Rattle.just_execution.specs.Walking.{State, add_at, counted, opened, ran}
 use Rattle.just_execution.proofs.Joined.{with_priors, asks, AllLow, AreDone, Settled, AllNamed, join, own-join, priors-join, asked-join, even-join, Complete-join, AllNamed-join, full-join, Fits-join, AllLow-more, has-last, known-more, known-priors, known-all, length-known, length-known_one, length-known_none, length-known_tops, AreDone-join, Settled-low, Settled-then, Settled-asked, unasked, add-twice, count-added, length-added, count-opened, length-opened, joined-counts, block-counts, opened-counts, joined-begun, joined-low, joined-own, joined-asks, none-in, none-below, one-below, has-more}
 use Rattle.just_execution.proofs.Keeps.{has-append, or_false}
@@ -35,11 +35,11 @@ memory-not h = cc
 
 -- where a run stands before some tasks
 pub record Stands (tops : List Task) (before : List AskedTask) (done : List Pair) (bound : ℕ) (s : State) (ts : List Task) : Type 0 where
-  pub known_all : All (λ (q : Task). In q (known tops before)) ts
+  pub known_all : All (λ (q : Task). In q (may_be_asked tops before)) ts
   pub table : s.table ≡ has same_pair done
   pub settled : Settled bound before done
   pub number : s.number < length s.calls
-  pub counter : get_or s.calls s.number 0 + length ts ≤ length (known tops before)
+  pub counter : get_or s.calls s.number 0 + length ts ≤ length (may_be_asked tops before)
 
 -- where it stands after them
 pub record Walked (recipes : List (Recipe Dependency)) (done : List Pair) (ts : List Task) (s now : State) (u : OnceTables) : Type 0 where
@@ -59,7 +59,7 @@ pub record Accounts (recipes : List (Recipe Dependency)) (tops : List Task) (bef
   pub fits : FitsTables recipes tops before done u
   pub low : AllLow bound (own u)
   pub whole : (now : State) → r ≡ Ok now → Walked recipes done ts s now u
-  pub full : r ≡ Err Exhausted → (2 ^ 64 ≤ length (known tops (before ++ asks u))) ⊎ IsFullBelow u
+  pub full : r ≡ Err Exhausted → (2 ^ 64 ≤ length (may_be_asked tops (before ++ asks u))) ⊎ IsFullBelow u
 
 -- tasks under a table of their own, and what happened
 pub record IsFresh (recipes : List (Recipe Dependency)) (ts : List Task) (calls : List ℕ) (old new : Log) (r : Result (List ℕ) Halt) (u : OnceTables) : Type 0 where
@@ -125,7 +125,7 @@ gave recipes tops before done bound s now ts old new r m t c d n h =
 pub broke : (recipes : List (Recipe Dependency)) (tops : List Task) (before : List AskedTask) (done : List Pair) (bound : ℕ) (s : State) (ts : List Task) (old new : Log)
     (r : Result State Halt) (u : OnceTables) (e : Halt) →
     r ≡ Err e → executed_in new ≡ executed_in old ++ executions recipes (begun u) → FitsTables recipes tops before done u → AllLow bound (own u) →
-    (e ≡ Exhausted → (2 ^ 64 ≤ length (known tops (before ++ asks u))) ⊎ IsFullBelow u) → Accounts recipes tops before done bound s ts old new r u
+    (e ≡ Exhausted → (2 ^ 64 ≤ length (may_be_asked tops (before ++ asks u))) ⊎ IsFullBelow u) → Accounts recipes tops before done bound s ts old new r u
 broke recipes tops before done bound s ts old new r u e h g f l k = record {
   gained = g;
   fits = f;
@@ -143,8 +143,8 @@ stands-then recipes tops before done bound s now t ts u a w =
     let same : get_or now.calls now.number 0 ≡ get_or calls s.number 0 = λ i. get_or (w.counts i) (w.number i) 0 in
     let longer : s.number < length calls = length-added s.calls (counts_below u) s.number (1 + prior_count u) a.number in
     record {
-      known_all = All-weaker (λ (q : Task). In q (known tops before)) (λ (q : Task). In q (known tops (before ++ asks u))) (λ q i. known-more tops before (asks u) q i) ts
-          (All-tail (λ (q : Task). In q (known tops before)) t ts a.known_all);
+      known_all = All-weaker (λ (q : Task). In q (may_be_asked tops before)) (λ (q : Task). In q (may_be_asked tops (before ++ asks u))) (λ q i. known-more tops before (asks u) q i) ts
+          (All-tail (λ (q : Task). In q (may_be_asked tops before)) t ts a.known_all);
       table = w.table;
       settled = Settled-then bound done before u a.settled w.settled;
       number = subst (λ m. m < length now.calls) (sym w.number) (subst (λ c. s.number < length c) (sym w.counts) longer);
@@ -154,11 +154,11 @@ stands-then recipes tops before done bound s now t ts u a w =
 pub stands-low : (tops : List Task) (before : List AskedTask) (done : List Pair) (k n : ℕ) (s : State) (t : Task) (ts : List Task) → k ≤ n → Stands tops before done n s (t ∷ ts) →
     Stands tops before done k s (t ∷ [])
 stands-low tops before done k n s t ts l a = record {
-  known_all = All-cons (λ (q : Task). In q (known tops before)) t [] (All-head (λ (q : Task). In q (known tops before)) t ts a.known_all) (All-nil (λ (q : Task). In q (known tops before)));
+  known_all = All-cons (λ (q : Task). In q (may_be_asked tops before)) t [] (All-head (λ (q : Task). In q (may_be_asked tops before)) t ts a.known_all) (All-nil (λ (q : Task). In q (may_be_asked tops before)));
   table = a.table;
   settled = Settled-low k n done before l a.settled;
   number = a.number;
-  counter = let h : get_or s.calls s.number 0 + suc (length ts) ≤ length (known tops before) = a.counter in omega arith;
+  counter = let h : get_or s.calls s.number 0 + suc (length ts) ≤ length (may_be_asked tops before) = a.counter in omega arith;
 }
 
 -- one task, and then others
@@ -182,9 +182,9 @@ walked-then recipes done t ts s now end u v n a b =
       even = even-join u v a.even b.even;
     }
 
-full-then : (tops : List Task) (before : List AskedTask) (u v : OnceTables) → (2 ^ 64 ≤ length (known tops ((before ++ asks u) ++ asks v))) ⊎ IsFullBelow v →
-    (2 ^ 64 ≤ length (known tops (before ++ asks (join u v)))) ⊎ IsFullBelow (join u v)
-full-then tops before u v (inl h) = inl (subst (λ as0. 2 ^ 64 ≤ length (known tops as0)) (joined-asks u v before) h)
+full-then : (tops : List Task) (before : List AskedTask) (u v : OnceTables) → (2 ^ 64 ≤ length (may_be_asked tops ((before ++ asks u) ++ asks v))) ⊎ IsFullBelow v →
+    (2 ^ 64 ≤ length (may_be_asked tops (before ++ asks (join u v)))) ⊎ IsFullBelow (join u v)
+full-then tops before u v (inl h) = inl (subst (λ as0. 2 ^ 64 ≤ length (may_be_asked tops as0)) (joined-asks u v before) h)
 full-then tops before u v (inr h) = inr (full-join u v h)
 
 pub accounts-then : (recipes : List (Recipe Dependency)) (tops : List Task) (before : List AskedTask) (done : List Pair) (k bound : ℕ) (s now : State) (t : Task) (ts : List Task)
@@ -221,10 +221,10 @@ count-split {A} p c limit x next old new r t = elim (cases_Bool (c + 1 == limit)
 
 -- where no more calls can be counted, as many tasks are known
 pub full-here : (tops : List Task) (before : List AskedTask) (done : List Pair) (bound : ℕ) (s : State) (t : Task) (limit : ℕ) → Stands tops before done bound s (t ∷ []) →
-    get_or s.calls s.number 0 + 1 ≡ limit → limit ≤ length (known tops (before ++ []))
+    get_or s.calls s.number 0 + 1 ≡ limit → limit ≤ length (may_be_asked tops (before ++ []))
 full-here tops before done bound s t limit a h =
-    let l : get_or s.calls s.number 0 + 1 ≤ length (known tops before) = a.counter in
-    subst (λ as0. limit ≤ length (known tops as0)) (sym (append-nil before)) (omega (arith, l, h))
+    let l : get_or s.calls s.number 0 + 1 ≤ length (may_be_asked tops before) = a.counter in
+    subst (λ as0. limit ≤ length (may_be_asked tops as0)) (sym (append-nil before)) (omega (arith, l, h))
 
 -- the call is counted, and the priors are asked for
 pub stands-asked : (tops : List Task) (before : List AskedTask) (done : List Pair) (s : State) (t : Task) (ps : List Task) →
@@ -232,7 +232,7 @@ pub stands-asked : (tops : List Task) (before : List AskedTask) (done : List Pai
 stands-asked tops before done s t ps a =
     let one : add_at s.calls s.number 1 ++ [] ≡ add_at s.calls s.number 1 = append-nil (add_at s.calls s.number 1) in
     let more : get_or (add_at s.calls s.number 1) s.number 0 ≡ get_or s.calls s.number 0 + 1 = ap (λ c. get_or c s.number 0) (sym one) ∙ count-added s.calls [] s.number 1 a.number in
-    let h : get_or s.calls s.number 0 + 1 ≤ length (known tops before) = a.counter in
+    let h : get_or s.calls s.number 0 + 1 ≤ length (may_be_asked tops before) = a.counter in
     record {
       known_all = known-priors tops before t ps;
       table = a.table;
@@ -252,9 +252,9 @@ stands-opened ts bound calls = record {
 }
 
 -- what is asked first
-full-asked : (tops : List Task) (before : List AskedTask) (a : AskedTask) (u : OnceTables) → (2 ^ 64 ≤ length (known tops ((before ++ a ∷ []) ++ asks u))) ⊎ IsFullBelow u →
-    (2 ^ 64 ≤ length (known tops (before ++ asks (Asked a u)))) ⊎ IsFullBelow (Asked a u)
-full-asked tops before a u (inl h) = inl (subst (λ as0. 2 ^ 64 ≤ length (known tops as0)) (append_assoc before (a ∷ []) (asks u)) h)
+full-asked : (tops : List Task) (before : List AskedTask) (a : AskedTask) (u : OnceTables) → (2 ^ 64 ≤ length (may_be_asked tops ((before ++ a ∷ []) ++ asks u))) ⊎ IsFullBelow u →
+    (2 ^ 64 ≤ length (may_be_asked tops (before ++ asks (Asked a u)))) ⊎ IsFullBelow (Asked a u)
+full-asked tops before a u (inl h) = inl (subst (λ as0. 2 ^ 64 ≤ length (may_be_asked tops as0)) (append_assoc before (a ∷ []) (asks u)) h)
 full-asked tops before a u (inr h) = inr h
 
 -- a task begun, and then no more
@@ -284,7 +284,7 @@ fresh-of recipes t ts bound calls now old new r u a h =
       ];
     }
 
-full-tops : (ts : List Task) (u : OnceTables) → (2 ^ 64 ≤ length (known ts (asks u))) ⊎ IsFullBelow u → IsFull ts u
+full-tops : (ts : List Task) (u : OnceTables) → (2 ^ 64 ≤ length (may_be_asked ts (asks u))) ⊎ IsFullBelow u → IsFull ts u
 full-tops ts u (inl h) = inl (subst (λ m. 2 ^ 64 ≤ m) (length-known_tops ts u) h)
 full-tops ts u (inr h) = inr h
 
@@ -360,7 +360,7 @@ pub ask-broke : (recipes : List (Recipe Dependency)) (tops : List Task) (before 
     Accounts recipes tops before done (suc t.pair.recipe) s (t ∷ []) old new r (Asked (with_priors t []) Empty)
 ask-broke recipes tops before done s t old new r e a n h k g =
     let f : AskFits recipes tops before (with_priors t []) Empty = record {
-      from = All-head (λ (q : Task). In q (known tops before)) t [] a.known_all;
+      from = All-head (λ (q : Task). In q (may_be_asked tops before)) t [] a.known_all;
       unasked = unasked t.pair done before a.settled n;
       named = inr (refl, refl);
     } in
@@ -371,7 +371,7 @@ ask-fits : (recipes : List (Recipe Dependency)) (tops : List Task) (before : Lis
     Stands tops before done (suc t.pair.recipe) s (t ∷ []) → has same_pair done t.pair ≡ false → AreNamed recipes (prior_dependencies recipes t.pair.recipe) ps →
     AskFits recipes tops before (with_priors t ps) u
 ask-fits recipes tops before done s t ps u a n m = record {
-  from = All-head (λ (q : Task). In q (known tops before)) t [] a.known_all;
+  from = All-head (λ (q : Task). In q (may_be_asked tops before)) t [] a.known_all;
   unasked = unasked t.pair done before a.settled n;
   named = inl m;
 }
@@ -396,9 +396,9 @@ visit-gained : (recipes : List (Recipe Dependency)) (u v : OnceTables) (old mid 
 visit-gained recipes u v old mid next new g h k = joined-begun recipes u v (executed_in old) (executed_in next) (executed_in new) (h ∙ ap (λ x. x ++ executions recipes (begun u)) g) k
 
 -- the table after the block
-table-put : (table : OnceTable) (now done : List Pair) (pair : Pair) → table ≡ has same_pair now → now ++ pair ∷ [] ≡ done → put table pair ≡ has same_pair done
+table-put : (table : OnceTable) (now done : List Pair) (pair : Pair) → table ≡ has same_pair now → now ++ pair ∷ [] ≡ done → put_in table pair ≡ has same_pair done
 table-put table now done pair h k =
-    let here : (q : Pair) → put table pair q ≡ has same_pair (now ++ pair ∷ []) q = λ q.
+    let here : (q : Pair) → put_in table pair q ≡ has same_pair (now ++ pair ∷ []) q = λ q.
     ap (λ (f : OnceTable). f q || same_pair pair q) h ∙ ap (λ b. has same_pair now q || b) (sym (or_false (same_pair pair q))) ∙ sym (has-append same_pair now (pair ∷ []) q) in
     (λ i q. here q i) ∙ ap (has same_pair) k
 

@@ -14,7 +14,7 @@ use Rattle.just_execution.specs.Expansion.{Part, Prepare, Block, part_key}
 use Rattle.just_execution.specs.Firsts.{has}
 use Rattle.just_execution.specs.Lower.{IsLower}
 use Rattle.just_execution.specs.declared.task.Task.{Task}
-use Rattle.just_execution.specs.Pairs.{same_pair, put, key, AllBelow}
+use Rattle.just_execution.specs.Pairs.{same_pair, put_in, key, AllBelow}
 use Rattle.just_execution.specs.Run.{tasks_in, priors_in, priors_by, subsequents_after, subsequents_by, block_run, part_steps, in_turn, Each}
 use Rattle.just_execution.proofs.Walks.{blocks, walk, walks}
 use Rattle.just_execution.specs.Walking.{TaskInteractions, Prepared, State, counted, all_steps, opened, fresh_steps, block_steps, ran, ran_steps, visit_steps, walk_steps}
@@ -87,7 +87,7 @@ module _ (of_task : TaskInteractions) (lower : IsLower of_task) (f : Question �
   turned-append : (xs ys : List (Part Task)) → and_then (turned xs) (λ _. turned ys) ≡ turned (xs ++ ys)
   turned-append xs ys = sym (ap in_turn (map-append (part_steps of_task f run) xs ys) ∙ in_turn-append (map (part_steps of_task f run) xs) (map (part_steps of_task f run) ys))
 
-  put-has : (xs : List Pair) (p : Pair) → put (has same_pair xs) p ≡ has same_pair (xs ++ p ∷ [])
+  put-has : (xs : List Pair) (p : Pair) → put_in (has same_pair xs) p ≡ has same_pair (xs ++ p ∷ [])
   put-has xs p = λ i q. (ap (λ b. has same_pair xs q || b) (sym (or_false (same_pair p q))) ∙ sym (has-append same_pair xs (p ∷ []) q)) i
 
   -- parts after parts, with what the table has then
@@ -140,7 +140,7 @@ module _ (of_task : TaskInteractions) (lower : IsLower of_task) (f : Question �
       Within f (At (table ++ keys_of (Block t ∷ []))) (ran_steps of_task (walk_steps of_task j) t a.held s) (turned (Block t ∷ []))
   ran-within j t a s table came b c g h =
       within-then f (λ x y. Unit {0}) (At (table ++ t.pair ∷ [])) (block_steps of_task (walk_steps of_task j) t a.held s.calls) (part_steps of_task f run (Block t)) (λ calls. Return (ran s t calls)) (λ _. Return tt)
-      (block-within j t a s.calls came b c g) (λ x y d e r. inl (refl, ap (λ a. put a t.pair) h ∙ put-has table t.pair))
+      (block-within j t a s.calls came b c g) (λ x y d e r. inl (refl, ap (λ a. put_in a t.pair) h ∙ put-has table t.pair))
 
   -- the questions of a task, and what follows them
   asked : (j : ℕ) → IsWalked j → (s : State) (table : List Pair) (t : Task) → j ≤ n → t.pair.recipe ≤ j → s.table ≡ has same_pair table → (ws : List (Part Task)) →

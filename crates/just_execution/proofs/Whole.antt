@@ -13,7 +13,7 @@ use Rattle.just_execution.specs.Firsts.{has, without_key, firsts_by}
 use Rattle.just_execution.specs.Lower.{IsLower}
 use Rattle.just_execution.specs.declared.task.Task.{Task}
 use Rattle.just_execution.specs.Pairs.{same_pair, key, task, AllBelow}
-use Rattle.just_execution.specs.Run.{tasks_in, priors_in, priors_by, subsequents_after, subsequents_by, block_run, part_steps, in_turn, parts, run_steps, Each, PartIgnoresFlag, PriorsIgnoreFlag}
+use Rattle.just_execution.specs.Run.{tasks_in, priors_in, priors_by, subsequents_after, subsequents_by, block_run, part_steps, in_turn, run_parts, run_steps, Each, PartIgnoresFlag, PriorsIgnoreFlag}
 use Rattle.just_execution.proofs.Walks.{blocks, walk, walks}
 use Rattle.just_execution.specs.Walking.{TaskInteractions, Prepared, fresh_steps, walk_steps}
 use Rattle.just_execution.proofs.Keeps.{Exact}
@@ -137,7 +137,7 @@ module _ (of_task : TaskInteractions) (lower : IsLower of_task) (f : Question �
         (low-flat n k (low-expansion n k) (priors_by of_task f t) (below-more t.pair.recipe k (priors_by of_task f t) (omega arith) (priors-lower t))) (l, tt),
   )
 
-  low-parts : (n k : ℕ) (ts : List Task) → AreLow k ts → Each (IsLow k) (parts of_task f n ts)
+  low-parts : (n k : ℕ) (ts : List Task) → AreLow k ts → Each (IsLow k) (run_parts of_task f n ts)
   low-parts n k ts b = Each-firsts (same_part same_pair) (part-exact same_pair pair-exact) (part_key key) (IsLow k) (flat_map (E n) ts) (low-flat n k (low-expansion n k) ts b)
 
   -- whether a task runs as a dependency does not matter
@@ -157,12 +157,12 @@ module _ (of_task : TaskInteractions) (lower : IsLower of_task) (f : Question �
   parts-even run (Block t ∷ xs) s = (tt, parts-even run xs s.1)
 
   -- so the walk is the parts of the run
-  pub walk-parts : (run : List Task → Type 0) (n : ℕ) (ts : List Task) → AreLow n ts → Each (PartIgnoresFlag of_task f run) (parts of_task f n ts) →
-      walks key (walk same_pair key (priors_by of_task f) n) [] ts ≡ parts of_task f n ts
+  pub walk-parts : (run : List Task → Type 0) (n : ℕ) (ts : List Task) → AreLow n ts → Each (PartIgnoresFlag of_task f run) (run_parts of_task f n ts) →
+      walks key (walk same_pair key (priors_by of_task f) n) [] ts ≡ run_parts of_task f n ts
   walk-parts run n ts b s =
       let G : Task → List Task = λ t. plain (key t) in
       let alike : Agree same_pair key (priors_by of_task f) G (flat_map (E n) ts) =
-      Each-all (same_part same_pair) (part-exact same_pair pair-exact) (part_key key) (Alike same_pair key (priors_by of_task f) G) (flat_map (E n) ts) (parts-even run (parts of_task f n ts) s) in
+      Each-all (same_part same_pair) (part-exact same_pair pair-exact) (part_key key) (Alike same_pair key (priors_by of_task f) G) (flat_map (E n) ts) (parts-even run (run_parts of_task f n ts) s) in
       walks-agree same_pair key (priors_by of_task f) G n [] ts alike
       ∙ walks-firsts_by same_pair pair-exact key plain rank (λ p. priors-lower (task false p)) n ts b
       ∙ ap (firsts_by (same_part same_pair) (part_key key)) (sym (expansions-agree same_pair key (priors_by of_task f) G n ts alike))
@@ -184,7 +184,7 @@ module _ (of_task : TaskInteractions) (lower : IsLower of_task) (f : Question �
   runs zero (t ∷ ts) calls b s = let h = b.0 in absurd (omega arith)
   runs (suc n) ts calls b s =
       let run : List Task → Interaction (Unit {0}) = run_steps of_task f n in
-      let S : List (Part Task) = parts of_task f (suc n) ts in
+      let S : List (Part Task) = run_parts of_task f (suc n) ts in
       let ws : List (Part Task) = walks key (walk same_pair key (priors_by of_task f) (suc n)) [] ts in
       let same : ws ≡ S = walk-parts (PriorsIgnoreFlag of_task f n) (suc n) ts b s in
       let fresh : Each (IsFresh of_task lower f n run) S = parts-fresh n (runs n) S (low-parts (suc n) (suc n) ts b) s in
@@ -237,7 +237,7 @@ module _ (of_task : TaskInteractions) (lower : IsLower of_task) (f : Question �
   runs-more (suc n) zero [] a b = refl
   runs-more (suc n) zero (t ∷ ts) a b = let h = b.0 in absurd (omega arith)
   runs-more (suc n) (suc m) ts a b =
-      turn-more n m (runs-more n m) (parts of_task f (suc n) ts) (low-parts (suc n) (suc n) ts a) (low-parts (suc n) (suc m) ts b)
+      turn-more n m (runs-more n m) (run_parts of_task f (suc n) ts) (low-parts (suc n) (suc n) ts a) (low-parts (suc n) (suc m) ts b)
       ∙ ap (λ xs. in_turn (map (part_steps of_task f (run_steps of_task f m)) (firsts_by (same_part same_pair) (part_key key) xs))) (both-more (suc n) (suc m) ts a b)
 
 -- the walk of a fresh table is within the expected run

@@ -56,8 +56,8 @@ abbrev pub AreIn : List Pair → List Task → Type 0
 AreIn done ts = All (λ (t : Task). has same_pair done t.pair ≡ true) ts
 
 -- what may be asked: the tops, and the priors of those asked
-abbrev pub known : List Task → List AskedTask → List Task
-known tops asked = tops ++ flat_map (λ (a : AskedTask). a.priors) asked
+abbrev pub may_be_asked : List Task → List AskedTask → List Task
+may_be_asked tops asked = tops ++ flat_map (λ (a : AskedTask). a.priors) asked
 
 -- the pairs of those asked
 abbrev pub pairs_asked : List AskedTask → List Pair
@@ -76,7 +76,7 @@ AreNamed recipes (d ∷ ds) ts = (these : List Task) × (others : List Task) × 
 -- a task asked in a table with these tops, where some were asked: it is a top or a prior of one of these, and its pair was not asked;
 -- its priors are what its recipe names, or asking for them was the last that happened
 pub record AskFits (recipes : List (Recipe Dependency)) (tops : List Task) (asked : List AskedTask) (a : AskedTask) (rest : OnceTables) : Type 0 where
-  pub from : In a.task (known tops asked)
+  pub from : In a.task (may_be_asked tops asked)
   pub unasked : has same_pair (pairs_asked asked) a.task.pair ≡ false
   pub named : AreNamed recipes (prior_dependencies recipes a.task.pair.recipe) a.priors ⊎ ((a.priors ≡ []) × (rest ≡ Empty))
 

@@ -140,6 +140,6 @@ pub record IsOpened (old : Course) (tasks : List Task) (new : Course) : Type 0 w
   pub lighter : (task : Task) (held : Held) → AllBelow task.pair.recipe tasks → IsLighter new.frames.items old.frames.items (Block task held)
 
 -- the elements of a vector that came out
-abbrev pub items_of : {A E : Type 0} → Result (Vec A Global) E → Result (List A) E
-items_of (Ok v) = Ok v.items
-items_of (Err e) = Err e
+abbrev pub items_of_frames : {A E : Type 0} → Result (Vec A Global) E → Result (List A) E
+items_of_frames (Ok v) = Ok v.items
+items_of_frames (Err e) = Err e

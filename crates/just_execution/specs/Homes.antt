@@ -25,9 +25,9 @@ use Rattle.just_execution.specs.Leading.{LeadTo}
 abbrev pub Modules : Type 0
 Modules = HashMap Modulepath ModuleScope (BuildHasherDefault FoldHasher)
 
-abbrev pub module_at : Modules → Option Modulepath → Option ModuleScope
-module_at modules None = None
-module_at modules (Some path) = get path_eq.ghosts.eq modules path
+abbrev pub module_scope_at : Modules → Option Modulepath → Option ModuleScope
+module_scope_at modules None = None
+module_scope_at modules (Some path) = get path_eq.ghosts.eq modules path
 
 -- the arguments of a dependency, one after another
 abbrev pub arguments_of : Dependency → List DependencyArgument
@@ -49,7 +49,7 @@ pub record IsModuleScopeOf (answers : SyntaxAnswers) (m : ModuleScope) (r : Reci
 -- a recipe has its module's scope: its module is among those of the run, and what the recipe reads is bound there
 pub record HasModuleScope (answers : SyntaxAnswers) (modules : Modules) (r : Recipe Dependency) : Type 0 where
   pub home : ModuleScope
-  pub there : module_at modules r.module_path ≡ Some home
+  pub there : module_scope_at modules r.module_path ≡ Some home
   pub own : IsModuleScopeOf answers home r
 
 -- each recipe that they lead to has it
@@ -69,4 +69,4 @@ pub record ServesIn (answers : SyntaxAnswers) (m : ModuleScope) (r : Recipe Depe
 -- it serves a task: in the module of the task's recipe
 abbrev pub IsServed : SyntaxAnswers → Modules → List (Recipe Dependency) → Task → Held → Type 0
 IsServed answers modules recipes t h =
-    (m : ModuleScope) (recipe : Recipe Dependency) → slice_get recipes t.pair.recipe ≡ Some recipe → module_at modules recipe.module_path ≡ Some m → ServesIn answers m recipe h
+    (m : ModuleScope) (recipe : Recipe Dependency) → slice_get recipes t.pair.recipe ≡ Some recipe → module_scope_at modules recipe.module_path ≡ Some m → ServesIn answers m recipe h

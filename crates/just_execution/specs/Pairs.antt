@@ -25,8 +25,8 @@ abbrev pub none : OnceTable
 none p = false
 
 -- one more did
-abbrev pub put : OnceTable → Pair → OnceTable
-put table pair p = table p || same_pair pair p
+abbrev pub put_in : OnceTable → Pair → OnceTable
+put_in table pair p = table p || same_pair pair p
 
 -- the pair alone is what a once table holds
 abbrev pub key : Task → Pair

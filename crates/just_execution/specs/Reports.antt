@@ -16,7 +16,7 @@ use Rattle.just_execution.specs.Account.{OnceTables, HasAccount, SaysOfTables}
 use Rattle.just_execution.specs.Expansion.{Prepare}
 use Rattle.just_execution.specs.TaskInteractions.{interactions_of}
 use Rattle.just_execution.specs.Pairs.{AllBelow}
-use Rattle.just_execution.specs.Run.{parts, run_steps, PriorsIgnoreFlag}
+use Rattle.just_execution.specs.Run.{run_parts, run_steps, PriorsIgnoreFlag}
 use Rattle.just_execution.specs.Scene.{Scene}
 use Rattle.just_execution.specs.Walking.{TaskInteractions, fresh_steps, walk_steps}
 
@@ -53,8 +53,8 @@ TasksRunAsExpected evaluator host scene tops old new result =
 
 -- in the expected run of these tasks, a task is the one that asks for its pair, and alone does so
 pub record IsFirstAsked (of_task : TaskInteractions) (f : Question → Answer) (n : ℕ) (tops : List Task) (t : Task) : Type 0 where
-  pub asked : In (Prepare t) (parts of_task f n tops)
-  pub alone : (u : Task) → In (Prepare u) (parts of_task f n tops) → u.pair ≡ t.pair → u ≡ t
+  pub asked : In (Prepare t) (run_parts of_task f n tops)
+  pub alone : (u : Task) → In (Prepare u) (run_parts of_task f n tops) → u.pair ≡ t.pair → u ≡ t
 
 -- memory or a number was refused
 abbrev pub IsResourceError : {A : Type 0} → Result A Halt → Type 0

@@ -47,23 +47,24 @@ in_turn [] = Return tt
 in_turn (s ∷ ss) = and_then s (λ _. in_turn ss)
 
 -- the first questions and the first block of each pair in the expansions of tasks, one after another
-abbrev pub parts : TaskInteractions → (Question → Answer) → ℕ → List Task → List (Part Task)
-parts of_task f n ts = firsts_by (same_part same_pair) (part_key key) (flat_map (expansion (priors_by of_task f) n) ts)
+abbrev pub run_parts : TaskInteractions → (Question → Answer) → ℕ → List Task → List (Part Task)
+run_parts of_task f n ts = firsts_by (same_part same_pair) (part_key key) (flat_map (expansion (priors_by of_task f) n) ts)
 
 -- the run of a list, for tasks of places below n
 abbrev pub run_steps : TaskInteractions → (Question → Answer) → ℕ → List Task → Interaction (Unit {0})
 run_steps of_task f zero ts = Return tt
-run_steps of_task f (suc n) ts = in_turn (map (part_steps of_task f (run_steps of_task f n)) (parts of_task f (suc n) ts))
+run_steps of_task f (suc n) ts = in_turn (map (part_steps of_task f (run_steps of_task f n)) (run_parts of_task f (suc n) ts))
 
--- of each task that is asked, the priors are the same whether or not it runs as a dependency; what is held for it may differ
+-- it holds of each element
 abbrev pub Each : {A : Type 0} → (A → Type 0) → List A → Type 0
 Each P [] = Unit {0}
 Each P (x ∷ xs) = P x × Each P xs
 
+-- of each task that is asked, the priors are the same whether or not it runs as a dependency; what is held for it may differ
 abbrev pub PartIgnoresFlag : TaskInteractions → (Question → Answer) → (List Task → Type 0) → Part Task → Type 0
 PartIgnoresFlag of_task f run (Prepare t) = priors_by of_task f (task true t.pair) ≡ priors_by of_task f (task false t.pair)
 PartIgnoresFlag of_task f run (Block t) = run (subsequents_by of_task f t)
 
 abbrev pub PriorsIgnoreFlag : TaskInteractions → (Question → Answer) → ℕ → List Task → Type 0
 PriorsIgnoreFlag of_task f zero ts = Unit {0}
-PriorsIgnoreFlag of_task f (suc n) ts = Each (PartIgnoresFlag of_task f (PriorsIgnoreFlag of_task f n)) (parts of_task f (suc n) ts)
+PriorsIgnoreFlag of_task f (suc n) ts = Each (PartIgnoresFlag of_task f (PriorsIgnoreFlag of_task f n)) (run_parts of_task f (suc n) ts)

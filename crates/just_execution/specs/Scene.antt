@@ -8,7 +8,7 @@ use Rattle.just_recipe.specs.declared.dependency.Dependency.{Dependency}
 use Rattle.just_recipe.specs.declared.recipe.Recipe.{Recipe}
 use Rattle.just_run_layers.specs.Evaluation as evaluation
 use Rattle.just_run_layers.specs.Evaluation.{ContextContents}
-use Rattle.just_execution.specs.Homes.{Modules, module_at}
+use Rattle.just_execution.specs.Homes.{Modules, module_scope_at}
 use Rattle.just_execution.specs.declared.scopes.ModuleScope.{ModuleScope}
 use Rattle.just_execution.specs.declared.scopes.Scopes.{Scopes}
 
@@ -64,7 +64,7 @@ contents_found None = None
 contents_found (Some m) = Some (contents_of m)
 
 abbrev pub scene_with : SyntaxAnswers → Modules → List (Recipe Dependency) → Scene
-scene_with syntax modules recipes = record { syntax = syntax; recipes = recipes; modules = λ path. contents_found (module_at modules path) }
+scene_with syntax modules recipes = record { syntax = syntax; recipes = recipes; modules = λ path. contents_found (module_scope_at modules path) }
 
 abbrev pub scene_in : {S : Type 0} → SyntaxAnswers → Scopes S → List (Recipe Dependency) → Scene
 scene_in syntax scopes recipes = scene_with syntax scopes.modules (running scopes.no_dependencies recipes)

@@ -16,7 +16,7 @@ use Rattle.just_recipe.specs.declared.recipe.Recipe.{Recipe}
 use Rattle.just_run_layers.specs.Evaluation.{Inquiry, Parameters, ScopeRequest, StringOf, Surroundings, Value}
 use Rattle.just_run_layers.specs.Host.{Answer, Bound, Refused}
 use Rattle.just_run_layers.specs.Interactions.{Log, log_of, Question, Interaction, Return, Fail, Ask, ToHost, ToEvaluator, and_then, HasTrace, both}
-use Rattle.just_recipe_body.specs.Body.{BodyContents, name_of}
+use Rattle.just_recipe_body.specs.Body.{BodyContents, body_name}
 use Rattle.just_recipe_body.specs.Confirmation.{confirm_steps}
 use Rattle.just_recipe_run.specs.RecipeRun.{recipe_steps}
 use Rattle.just_execution.specs.Arguments.{dependencies_steps, unevaluated}
@@ -73,7 +73,7 @@ consented name false = Fail (Failed (NotConfirmed name))
 
 -- confirmation is asked for, unless the configuration says yes to all
 abbrev pub consent_steps : BodyContents → Interaction (Unit {0})
-consent_steps b = cond b.context.config.yes (Return tt) (and_then (confirm_steps b) (consented (name_of b)))
+consent_steps b = cond b.context.config.yes (Return tt) (and_then (confirm_steps b) (consented (body_name b)))
 
 -- its parameters, its confirmation, and then the arguments of its priors
 abbrev pub held_steps : SyntaxAnswers → List (Recipe Dependency) → Task → Recipe Dependency → ModuleContents → Held → Interaction Prepared

@@ -4,7 +4,7 @@ use Rattle.just_errors.specs.declared.halt.Halt.TheVariants.{Exhausted}
 use Rattle.just_run_layers.specs.Interactions.{Interaction, Return, Fail, and_then}
 use Rattle.just_run_layers.specs.declared.held.Held.{Held}
 use Rattle.just_execution.specs.declared.task.Task.{Task}
-use Rattle.just_execution.specs.Pairs.{OnceTable, none, put}
+use Rattle.just_execution.specs.Pairs.{OnceTable, none, put_in}
 
 -- what asking for a task comes to: what is held for its block, and its priors
 pub record Prepared : Type 0 where
@@ -57,7 +57,7 @@ block_steps of_task walk t h calls = and_then (of_task.execute t h) (λ _. and_t
 
 -- the pair ran
 abbrev pub ran : State → Task → List ℕ → State
-ran s t calls = record { number = s.number; table = put s.table t.pair; calls = calls }
+ran s t calls = record { number = s.number; table = put_in s.table t.pair; calls = calls }
 
 abbrev pub ran_steps : TaskInteractions → (State → Task → Interaction State) → Task → Held → State → Interaction State
 ran_steps of_task walk t h s = and_then (block_steps of_task walk t h s.calls) (λ calls. Return (ran s t calls))

@@ -7,7 +7,7 @@ ghost use Rattle.just_run_layers.specs.Covering.{IsCovered, module_of};
 ghost use Rattle.just_run_layers.specs.Evaluation.{surroundings};
 ghost use Rattle.just_run_layers.specs.Host.{KeepsPromises};
 ghost use Rattle.just_execution.specs.Arguments.{AreReadableGroups, AreReadableArguments, IsGivenIn, IsReadableArgument, argument_steps, dependencies_steps, groups_steps, task_at, tasks_with, texts_given, texts_steps, value_steps, with_text};
-ghost use Rattle.just_execution.specs.Frames.{items_of};
+ghost use Rattle.just_execution.specs.Frames.{items_of_frames};
 ghost use Rattle.just_execution.specs.TaskInteractions.{AsksAlone, surrounded};
 ghost use Rattle.just_execution.specs.Scene.{contents_of};
 
@@ -225,7 +225,7 @@ pub fn ask_dependencies<'src, E: Evaluation>(
     requires given { All (IsGivenIn (module_of home.now.context) held.now.scope) dependencies.now }
     ensures keeps { KeepsPromises (E.promised evaluation.old) (E.promised evaluation.new) }
     ensures took { let steps = dependencies_steps recipes.now (surrounded (contents_of home.now) task.now held.now) dependencies.now in
-        AsksAlone (E.promised evaluation.old) steps (E.requests evaluation.old) (E.requests evaluation.new) (items_of result) }
+        AsksAlone (E.promised evaluation.old) steps (E.requests evaluation.old) (E.requests evaluation.new) (items_of_frames result) }
 {
     let mut tasks = Vec::new(alloc);
     for dependency in dependencies {

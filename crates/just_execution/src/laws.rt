@@ -11,7 +11,7 @@ ghost use Rattle.just_execution.specs.TaskInteractions.{IsAlike, interactions_of
 ghost use Rattle.just_execution.specs.Pairs.{AllBelow};
 ghost use Rattle.just_recipe.specs.Recipes.{IsOrdered};
 ghost use Rattle.just_execution.specs.Reports.{IsEnough, IsFirstAsked, AgreeUnlessResourceError};
-ghost use Rattle.just_execution.specs.Run.{PriorsIgnoreFlag, parts};
+ghost use Rattle.just_execution.specs.Run.{PriorsIgnoreFlag, run_parts};
 ghost use Rattle.just_execution.specs.Scene.{AreAlike, Scene};
 
 /// An expected run with as much fuel as there are recipes is whole: more fuel changes nothing.
@@ -35,7 +35,7 @@ pub fn one_outcome()
 pub fn blocks_are_first_asked()
     ensures { (scene : Scene) (f : Question → Answer) (n : ℕ) (tops : List Task) →
         IsOrdered scene.recipes → AllBelow n tops → PriorsIgnoreFlag (interactions_of scene) f n tops →
-        (t : Task) → In (Block t) (parts (interactions_of scene) f n tops) → IsFirstAsked (interactions_of scene) f n tops t }
+        (t : Task) → In (Block t) (run_parts (interactions_of scene) f n tops) → IsFirstAsked (interactions_of scene) f n tops t }
 {}
 
 /// In scenes with the same recipes, and the same in the module of each recipe, the same is asked of each task.

@@ -1,5 +1,5 @@
 ghost use Rattle.std.specs.Prelude.{◌≡◌, [], OnOk, OnErr};
-ghost use Rattle.just_execution.specs.Pairs.{put, table_of};
+ghost use Rattle.just_execution.specs.Pairs.{put_in, table_of};
 
 use crate::pair::Pair;
 use std::alloc::{AllocError, Global};
@@ -40,7 +40,7 @@ impl Once {
 
     /// Puts the pair in. Where memory is refused the table stands.
     pub fn insert(&mut self, pair: Pair) -> Result<(), AllocError>
-        ensures ok { OnOk result (table_of self.new ≡ put (table_of self.old) pair) }
+        ensures ok { OnOk result (table_of self.new ≡ put_in (table_of self.old) pair) }
         ensures err { OnErr result (self.new ≡ self.old) }
     {
         self.pairs.insert(pair)?;

@@ -6,7 +6,7 @@ ghost use Rattle.just_recipe.specs.Recipes.{IsResolved};
 ghost use Rattle.just_run_layers.specs.Covering.{AreParametersCovered, BindsParameters, module_of};
 ghost use Rattle.just_run_layers.specs.Host.{KeepsPromises};
 ghost use Rattle.just_run_layers.specs.Interactions.{log_of};
-ghost use Rattle.just_execution.specs.Frames.{items_of};
+ghost use Rattle.just_execution.specs.Frames.{items_of_frames};
 ghost use Rattle.just_execution.specs.Homes.{IsCallable, IsServed};
 ghost use Rattle.just_execution.specs.TaskInteractions.{AsksAlone, Prepares, follow_steps, parameters_steps, prepared_of};
 ghost use Rattle.just_execution.specs.Scene.{contents_of, scene_in};
@@ -114,7 +114,7 @@ pub fn follow<'src, S: Syntax, E: Evaluation>(
     requires served { IsServed (S.answers scopes.now.syntax.now) scopes.now.modules recipes.now task.now held.now }
     ensures keeps { KeepsPromises (E.promised evaluation.old) (E.promised evaluation.new) }
     ensures took { let steps = follow_steps (scene_in (S.answers scopes.now.syntax.now) scopes.now recipes.now) task.now held.now in
-        AsksAlone (E.promised evaluation.old) steps (E.requests evaluation.old) (E.requests evaluation.new) (items_of result) }
+        AsksAlone (E.promised evaluation.old) steps (E.requests evaluation.old) (E.requests evaluation.new) (items_of_frames result) }
 {
     let home = module_of(scopes, recipe_at(recipes, task.pair.recipe));
     let named = subsequents_in(scopes, recipes, task.pair.recipe);

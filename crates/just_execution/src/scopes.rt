@@ -1,6 +1,6 @@
 //! What recipes run in: the modules of a run.
 ghost use Rattle.std.specs.Prelude.{◌≡◌, Some};
-ghost use Rattle.just_execution.specs.Homes.{HasModuleScope, IsModuleScopeOf, module_at};
+ghost use Rattle.just_execution.specs.Homes.{HasModuleScope, IsModuleScopeOf, module_scope_at};
 
 use just_parts::Recipe;
 use just_parts::layers::{Scope, Syntax};
@@ -35,7 +35,7 @@ pub(crate) fn module_of<'a, 'run, 'src, S: Syntax>(
 ) -> &'a ModuleScope<'run, 'src>
     requires { HasModuleScope (S.answers scopes.now.syntax.now) scopes.now.modules recipe.now }
     ensures own { IsModuleScopeOf (S.answers scopes.now.syntax.now) result.now recipe.now }
-    ensures there { module_at scopes.now.modules recipe.now.module_path ≡ Some result.now }
+    ensures there { module_scope_at scopes.now.modules recipe.now.module_path ≡ Some result.now }
 {
     scopes.modules.get(recipe.module_path()).unwrap()
 }

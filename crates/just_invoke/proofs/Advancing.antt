@@ -14,11 +14,12 @@ use Rattle.just_recipe.specs.declared.recipe.Recipe.{Recipe}
 use Rattle.just_table.specs.Entries.{find}
 use Rattle.just_tail.specs.Words.{Words}
 use Rattle.just_justfile.proofs.Leading.{along_walk, end_ordered, named_ordered}
-use Rattle.just_justfile.specs.Closed.{Held, recipe_aliased, recipe_named}
+use Rattle.just_justfile.specs.Closed.{HeldRecipes, recipe_aliased, recipe_named}
 use Rattle.just_justfile.specs.Walks.{AreModulesOrdered, inner_along, module_named}
 use Rattle.just_justfile.specs.declared.justfile.Justfile.{Justfile, out-Justfile}
 use Rattle.just_invoke.specs.Cause.{InvocationFault}
-use Rattle.just_invoke.specs.Meaning.{Meaning, a_module, a_recipe, disabled_recipe, disabled_alias, absent_module, nothing, aliased_module, disabling, found_or, meaning}
+use Rattle.just_evaluate.specs.Destination.{submodule_aliased}
+use Rattle.just_invoke.specs.Meaning.{Meaning, a_module, a_recipe, disabled_recipe, disabled_alias, absent_module, nothing, disabling, found_or, meaning}
 use Rattle.just_invoke.specs.Head.{BadName, IsEnd, IsNoEnd, IsStep, MeaningLeads, MeaningMisleads, WordsLead, WordsMislead, goes_on, place_of}
 use Rattle.just_invoke.specs.declared.walk.Step.{Step}
 use Rattle.just_invoke.specs.declared.walk.Step.TheVariants as step
@@ -59,10 +60,10 @@ by_absent : (b : Bool) → MeansOrdered (if b then absent_module else nothing)
 by_absent true = tt
 by_absent false = tt
 
-means_ordered : (root : Justfile) (recipes : Held) (here : Justfile) (name : Text) → AreModulesOrdered root → AreModulesOrdered here → MeansOrdered (meaning root recipes here name)
+means_ordered : (root : Justfile) (recipes : HeldRecipes) (here : Justfile) (name : Text) → AreModulesOrdered root → AreModulesOrdered here → MeansOrdered (meaning root recipes here name)
 means_ordered root recipes here name root_order here_order =
     by_module (module_named name (out-Justfile here).modules) _ (λ j. named_ordered name (out-Justfile here).modules j here_order)
-    (by_module (aliased_module root here name) _ (λ j. alias_ordered root j (find name (out-Justfile here).aliases.modules) root_order)
+    (by_module (submodule_aliased root here name) _ (λ j. alias_ordered root j (find name (out-Justfile here).aliases.modules) root_order)
     (by_recipe (recipe_named here recipes name) _
     (by_recipe (recipe_aliased here recipes name) _
     (by_disabled (disabling (out-Justfile here).disabled_recipes name) _
@@ -96,7 +97,7 @@ none_follow (x ∷ xs) e = absurd (true≢false e)
 ends_all : (names : List (Bor Text)) (at : ℕ) → at < length names → goes_on true (texts (drop (at + 1) names)) ≡ false → at + 1 ≡ length names
 ends_all names at h e = omega (arith, none_follow (drop (at + 1) names) e, length-drop (at + 1) names)
 
-module _ (root : Justfile) (recipes : Held) (one : Bool) (names : List (Bor Text)) where
+module _ (root : Justfile) (recipes : HeldRecipes) (one : Bool) (names : List (Bor Text)) where
   -- what leads on from a module leads from the root, and what misleads there misleads
   pub record IsReached (at : ℕ) (here : Justfile) : Type 0 where
     pub ordered : AreModulesOrdered here

@@ -11,7 +11,7 @@ use Rattle.just_recipe.specs.declared.recipe.Recipe.{Recipe}
 use Rattle.just_tail.specs.Words.{Words}
 use Rattle.just_justfile.specs.declared.justfile.Justfile.{Justfile, out-Justfile}
 use Rattle.just_justfile.specs.declared.justfile.RecipeKey.{RecipeKey}
-use Rattle.just_justfile.specs.Closed.{Held, default_recipe, name_of}
+use Rattle.just_justfile.specs.Closed.{HeldRecipes, default_recipe, resolved_name}
 use Rattle.just_invoke.specs.Cause.{InvocationFault, with_recipe, unknown_recipe, unknown_submodule, expected_submodule, recipe_disabled, alias_disabled, module_absent, no_recipes, no_default, default_requires}
 use Rattle.just_invoke.specs.Words.{IsPathWord, has_colon, is_empty}
 use Rattle.just_invoke.specs.Meaning.{Meaning, a_module, a_recipe, disabled_recipe, disabled_alias, absent_module, nothing, meaning}
@@ -31,11 +31,11 @@ default_or [] None = inr (no_recipes, refl)
 default_or (x ∷ xs) None = inr (no_default, refl)
 default_or table (Some r) = elim (cases_eq (least_arguments r.parameters) 0) [
   | inl e ↦ inl (r, refl, e)
-  | inr n ↦ inr (default_requires (name_of r) (least_arguments r.parameters), (n, refl))
+  | inr n ↦ inr (default_requires (resolved_name r) (least_arguments r.parameters), (n, refl))
 ]
 
 -- some of the names lead to a recipe, all of them if they are one word, or there is a cause
-abbrev LeadsOr : Justfile → Held → Justfile → Bool → Words → Words → Type 0
+abbrev LeadsOr : Justfile → HeldRecipes → Justfile → Bool → Words → Words → Type 0
 LeadsOr root recipes here one path names =
     ((head : Words) × (rest : Words) × (r : Recipe Dependency) × (names ≡ head ++ rest) × (one ≡ true → rest ≡ []) × WordsLead root recipes here head rest r)
     ⊎ ((cause : InvocationFault) × WordsMislead root recipes here one path names cause)
@@ -67,7 +67,7 @@ step_or absent_module On Off one go path place names ends on = inr (module_absen
 step_or nothing On Off one true path place names ends on = inr (unknown_submodule (text_of path false), refl)
 step_or nothing On Off one false path place names ends on = inr (unknown_recipe (text_of path (not one)), refl)
 
-leads_or : (root : Justfile) (recipes : Held) (here : Justfile) (one : Bool) (path names : Words) → LeadsOr root recipes here one path names
+leads_or : (root : Justfile) (recipes : HeldRecipes) (here : Justfile) (one : Bool) (path names : Words) → LeadsOr root recipes here one path names
 leads_or root recipes here one path [] = elim (default_or (out-Justfile here).recipes (default_recipe here recipes)) [
   | inl p ↦ inl ([], [], p.0, refl, (λ e. refl), (refl, (p.1, p.2)))
   | inr q ↦ inr q
@@ -81,13 +81,13 @@ leads_or root recipes here one path (n ∷ ns) =
     ]
 
 -- names that lead with nothing left of them
-one_word : (root : Justfile) (recipes : Held) (names head rest : Words) (r : Recipe Dependency) → names ≡ head ++ rest → rest ≡ [] → WordsLead root recipes root head rest r →
+one_word : (root : Justfile) (recipes : HeldRecipes) (names head rest : Words) (r : Recipe Dependency) → names ≡ head ++ rest → rest ≡ [] → WordsLead root recipes root head rest r →
     WordsLead root recipes root names [] r
 one_word root recipes names head rest r e f p =
     let g : head ≡ names = sym (append-nil head) ∙ ap (λ t. head ++ t) (sym f) ∙ sym e in
     subst (λ ns. WordsLead root recipes root ns [] r) g (subst (λ t. WordsLead root recipes root head t r) f p)
 
-path_or : (root : Justfile) (recipes : Held) (last : Bool) (w : Text) → PathOrNone (IsPathWord last w) →
+path_or : (root : Justfile) (recipes : HeldRecipes) (last : Bool) (w : Text) → PathOrNone (IsPathWord last w) →
     ((r : Recipe Dependency) × PathLeads root recipes last w r) ⊎ ((cause : InvocationFault) × NoPath root recipes last w cause)
 path_or root recipes last w (inr none) = inr (unknown_recipe w, inl (none, refl))
 path_or root recipes last w (inl p) = elim (leads_or root recipes root true [] p.0) [
@@ -96,13 +96,13 @@ path_or root recipes last w (inl p) = elim (leads_or root recipes root true [] p
 ]
 
 -- the words begin with a head, or there is a cause
-abbrev HeadOr : Justfile → Held → Words → Type 0
+abbrev HeadOr : Justfile → HeldRecipes → Words → Type 0
 HeadOr root recipes words =
     ((head : Words) × (rest : Words) × (r : Recipe Dependency) × (words ≡ head ++ rest) × IsHead root recipes head rest r)
     ⊎ ((cause : InvocationFault) × NoHead root recipes words cause)
 
 -- words in turn, of which the first has no colon, are a head
-head_in_turn : (root : Justfile) (recipes : Held) (w : Text) (ws head rest : Words) (r : Recipe Dependency) → has_colon w ≡ false → w ∷ ws ≡ head ++ rest →
+head_in_turn : (root : Justfile) (recipes : HeldRecipes) (w : Text) (ws head rest : Words) (r : Recipe Dependency) → has_colon w ≡ false → w ∷ ws ≡ head ++ rest →
     WordsLead root recipes root head rest r → IsHead root recipes head rest r
 head_in_turn root recipes w ws [] rest r e f p = p
 head_in_turn root recipes w ws (x ∷ xs) rest r e f p =
@@ -110,11 +110,11 @@ head_in_turn root recipes w ws (x ∷ xs) rest r e f p =
     let none : has_colon x ≡ false = ap has_colon same ∙ e in
     subst (λ b. MatchBool b ((xs ≡ []) × PathLeads root recipes (is_empty rest) x r) (WordsLead root recipes root (x ∷ xs) rest r)) (sym none) p
 
-no_head_in_turn : (root : Justfile) (recipes : Held) (w : Text) (ws : Words) (c : InvocationFault) → has_colon w ≡ false → WordsMislead root recipes root false [] (w ∷ ws) c → NoHead root recipes (w ∷ ws) c
+no_head_in_turn : (root : Justfile) (recipes : HeldRecipes) (w : Text) (ws : Words) (c : InvocationFault) → has_colon w ≡ false → WordsMislead root recipes root false [] (w ∷ ws) c → NoHead root recipes (w ∷ ws) c
 no_head_in_turn root recipes w ws c e p =
     subst (λ b. MatchBool b (NoPath root recipes (is_empty ws) w c) (WordsMislead root recipes root false [] (w ∷ ws) c)) (sym e) p
 
-word_or : (root : Justfile) (recipes : Held) (w : Text) (ws : Words) (colon : Bool) → has_colon w ≡ colon → HeadOr root recipes (w ∷ ws)
+word_or : (root : Justfile) (recipes : HeldRecipes) (w : Text) (ws : Words) (colon : Bool) → has_colon w ≡ colon → HeadOr root recipes (w ∷ ws)
 word_or root recipes w ws true e = elim (path_or root recipes (is_empty ws) w (decide_path (is_empty ws) w)) [
   | inl p ↦ inl (w ∷ [], ws, p.0, refl, subst (λ b. MatchBool b ((◌≡◌ {A = Words} [] []) × PathLeads root recipes (is_empty ws) w p.0) (WordsLead root recipes root (w ∷ []) ws p.0)) (sym e) (refl, p.1))
   | inr q ↦ inr (q.0, subst (λ b. MatchBool b (NoPath root recipes (is_empty ws) w q.0) (WordsMislead root recipes root false [] (w ∷ ws) q.0)) (sym e) q.1)
@@ -124,11 +124,11 @@ word_or root recipes w ws false e = elim (leads_or root recipes root false [] (w
   | inr q ↦ inr (q.0, no_head_in_turn root recipes w ws q.0 e q.1)
 ]
 
-no_words : (root : Justfile) (recipes : Held) (head rest : Words) (r : Recipe Dependency) → [] ≡ head ++ rest → WordsLead root recipes root head rest r → WordsLead root recipes root [] [] r
+no_words : (root : Justfile) (recipes : HeldRecipes) (head rest : Words) (r : Recipe Dependency) → [] ≡ head ++ rest → WordsLead root recipes root head rest r → WordsLead root recipes root [] [] r
 no_words root recipes [] rest r e p = (refl, p.1)
 no_words root recipes (x ∷ xs) rest r e p = absurd (let f : ⊥ = (cc) in f)
 
-heads : (root : Justfile) (recipes : Held) (words : Words) → HeadOr root recipes words
+heads : (root : Justfile) (recipes : HeldRecipes) (words : Words) → HeadOr root recipes words
 heads root recipes [] = elim (leads_or root recipes root false [] []) [
   | inl (head, rest, r, f, all, p) ↦ inl ([], [], r, refl, no_words root recipes head rest r f p)
   | inr q ↦ inr q
@@ -136,10 +136,10 @@ heads root recipes [] = elim (leads_or root recipes root false [] []) [
 heads root recipes (w ∷ ws) = word_or root recipes w ws (has_colon w) refl
 
 -- an invocation begins the words, or there is a cause
-abbrev BeginsOr : Counts → Justfile → Held → Words → Type 0
+abbrev BeginsOr : Counts → Justfile → HeldRecipes → Words → Type 0
 BeginsOr counts root recipes words = ((after : Words) × (i : Invoked) × Invokes counts root recipes words after i) ⊎ ((cause : InvocationFault) × NoInvocation counts root recipes words cause)
 
-begins_after : (counts : Counts) (root : Justfile) (recipes : Held) (words head rest : Words) (r : Recipe Dependency) → words ≡ head ++ rest → IsHead root recipes head rest r →
+begins_after : (counts : Counts) (root : Justfile) (recipes : HeldRecipes) (words head rest : Words) (r : Recipe Dependency) → words ≡ head ++ rest → IsHead root recipes head rest r →
     ReadingOr counts r rest → BeginsOr counts root recipes words
 begins_after counts root recipes words head rest r whole names (inl (tail, after, groups, e, takes)) =
     inl (
@@ -155,7 +155,7 @@ begins_after counts root recipes words head rest r whole names (inl (tail, after
     )
 begins_after counts root recipes words head rest r whole names (inr (why, stops)) =
     inr (
-      with_recipe (name_of r) why,
+      with_recipe (resolved_name r) why,
       inr (record { recipe = r; head = head; rest = rest; why = why; whole = whole; names = names; stops = stops; says = refl }),
     )
 
@@ -164,36 +164,36 @@ utf8_after : (front after : Words) → AreUtf8 (front ++ after) → AreUtf8 afte
 utf8_after [] after u = u
 utf8_after (w ∷ ws) after u = utf8_after ws after u.1
 
-begins_head : (counts : Counts) (root : Justfile) (recipes : Held) (words : Words) → AreUtf8 words → HeadOr root recipes words → BeginsOr counts root recipes words
+begins_head : (counts : Counts) (root : Justfile) (recipes : HeldRecipes) (words : Words) → AreUtf8 words → HeadOr root recipes words → BeginsOr counts root recipes words
 begins_head counts root recipes words u (inr q) = inr (q.0, inl q.1)
 begins_head counts root recipes words u (inl (head, rest, r, whole, names)) =
     begins_after counts root recipes words head rest r whole names (reading_or_stop counts r rest (utf8_after head rest (subst AreUtf8 whole u)))
 
-begins : (counts : Counts) (root : Justfile) (recipes : Held) (words : Words) → AreUtf8 words → BeginsOr counts root recipes words
+begins : (counts : Counts) (root : Justfile) (recipes : HeldRecipes) (words : Words) → AreUtf8 words → BeginsOr counts root recipes words
 begins counts root recipes words u = begins_head counts root recipes words u (heads root recipes words)
 
 -- the words are invocations, or there is a cause after some
-abbrev ChainOr : Counts → Justfile → Held → Words → Type 0
+abbrev ChainOr : Counts → Justfile → HeldRecipes → Words → Type 0
 ChainOr counts root recipes words =
     ((is : List Invoked) × Chain counts root recipes words is [])
     ⊎ ((cause : InvocationFault) × (is : List Invoked) × (rest : Words) × Chain counts root recipes words is rest × (rest ≢ []) × NoInvocation counts root recipes rest cause)
 
-chain_more : (counts : Counts) (root : Justfile) (recipes : Held) (words after : Words) (i : Invoked) → words ≢ [] → Invokes counts root recipes words after i → ChainOr counts root recipes after →
+chain_more : (counts : Counts) (root : Justfile) (recipes : HeldRecipes) (words after : Words) (i : Invoked) → words ≢ [] → Invokes counts root recipes words after i → ChainOr counts root recipes after →
     ChainOr counts root recipes words
 chain_more counts root recipes words after i h p (inl q) = inl (i ∷ q.0, (h, after, p, q.1))
 chain_more counts root recipes words after i h p (inr q) = inr (q.0, i ∷ q.1, q.2, (h, after, p, q.3), q.4, q.5)
 
-utf8_invoked : (counts : Counts) (root : Justfile) (recipes : Held) (words after : Words) (i : Invoked) → Invokes counts root recipes words after i → AreUtf8 words → AreUtf8 after
+utf8_invoked : (counts : Counts) (root : Justfile) (recipes : HeldRecipes) (words after : Words) (i : Invoked) → Invokes counts root recipes words after i → AreUtf8 words → AreUtf8 after
 utf8_invoked counts root recipes words after i p u = utf8_after p.tail after (utf8_after p.head (p.tail ++ after) (subst AreUtf8 p.whole u))
 
-chain_step : (counts : Counts) (root : Justfile) (recipes : Held) (fuel : ℕ) → ((words : Words) → length words < fuel → AreUtf8 words → ChainOr counts root recipes words) →
+chain_step : (counts : Counts) (root : Justfile) (recipes : HeldRecipes) (fuel : ℕ) → ((words : Words) → length words < fuel → AreUtf8 words → ChainOr counts root recipes words) →
     (words : Words) → words ≢ [] → length words < suc fuel → AreUtf8 words → BeginsOr counts root recipes words → ChainOr counts root recipes words
 chain_step counts root recipes fuel chain words h small u (inl (after, i, p)) =
     chain_more counts root recipes words after i h p
     (chain after (let less = invokes_takes counts root recipes words after i h p in omega arith) (utf8_invoked counts root recipes words after i p u))
 chain_step counts root recipes fuel chain words h small u (inr q) = inr (q.0, [], words, refl, h, q.1)
 
-chain_or : (counts : Counts) (root : Justfile) (recipes : Held) (fuel : ℕ) (words : Words) → length words < fuel → AreUtf8 words → ChainOr counts root recipes words
+chain_or : (counts : Counts) (root : Justfile) (recipes : HeldRecipes) (fuel : ℕ) (words : Words) → length words < fuel → AreUtf8 words → ChainOr counts root recipes words
 chain_or counts root recipes zero words h u = absurd (omega arith)
 chain_or counts root recipes (suc n) [] h u = inl ([], refl)
 chain_or counts root recipes (suc n) (w ∷ ws) h u =
@@ -205,13 +205,13 @@ none_after [] (t ∷ ts) after e = (cc)
 none_after (h ∷ hs) tail after e = (cc)
 
 -- no words are an invocation, or have a fault
-empty_or : (counts : Counts) (root : Justfile) (recipes : Held) → BeginsOr counts root recipes [] →
+empty_or : (counts : Counts) (root : Justfile) (recipes : HeldRecipes) → BeginsOr counts root recipes [] →
     ((is : List Invoked) × IsSplit counts root recipes [] is) ⊎ ((cause : InvocationFault) × HasWordsFault counts root recipes [] cause)
 empty_or counts root recipes (inl (after, i, p)) =
     inl (i ∷ [], (i, refl, subst (λ ws. Invokes counts root recipes [] ws i) (none_after p.head p.tail after p.whole) p))
 empty_or counts root recipes (inr q) = inr (q.0, ([], [], refl, inr refl, q.1))
 
-pub split_or_fault : (counts : Counts) (root : Justfile) (recipes : Held) (words : Words) → AreUtf8 words →
+pub split_or_fault : (counts : Counts) (root : Justfile) (recipes : HeldRecipes) (words : Words) → AreUtf8 words →
     ((is : List Invoked) × IsSplit counts root recipes words is) ⊎ ((cause : InvocationFault) × HasWordsFault counts root recipes words cause)
 split_or_fault counts root recipes [] u = empty_or counts root recipes (begins counts root recipes [] u)
 split_or_fault counts root recipes (w ∷ ws) u = elim (chain_or counts root recipes (suc (length (w ∷ ws))) (w ∷ ws) (omega arith) u) [

@@ -1,5 +1,5 @@
 -- From the text that was made to what the form Evaluate comes to.
-use Rattle.std.proofs.Common.{◌≡◌, Bool, true, List, Option, Ok, Err, refl, sym, ap, subst, ◌∙◌}
+use Rattle.std.proofs.Common.{◌≡◌, Bool, true, List, Option, Ok, Err, sym, ap, subst, ◌∙◌}
 use Rattle.std.specs.Prelude.{Result}
 use Rattle.std.proofs.Math.Path.{fun_ext}
 use Rattle.just_errors.specs.declared.error.Error.{Error}
@@ -21,8 +21,9 @@ use Rattle.just_scopes.specs.Open.{AreLazyModules, OpensLazily}
 use Rattle.just_scopes.specs.Opening.{Handed, Opened, all_opened}
 use Rattle.just_scopes.specs.Preorder.{IsPreorderUnder, Placed}
 use Rattle.just_evaluate.specs.Asked.{AreTargetNumbers}
-use Rattle.just_evaluate.specs.Destination.{Destination, TellsLack, destination, leads_to}
-use Rattle.just_invoke.specs.Evaluation.{HasOpenedLazily, IsAnsweredFor, IsEvaluation, IsEvaluationAsExpected, IsTextMade, LeadsToValues, ValuesAsked, Writer, evaluated, made, numbers_of, refused, shut, text_in, text_steps, unmade}
+use Rattle.just_evaluate.specs.Destination.{TellsLack, destination, leads_to}
+use Rattle.just_invoke.specs.Evaluation.{IsAnsweredFor, IsEvaluation, IsEvaluationAsExpected, IsTextMade, LeadsToValues, ValuesAsked, Writer, evaluated, made, numbers_of, shut, text_in, text_steps, unmade}
+use Rattle.just_invoke.specs.Lazily.{HasOpenedLazily}
 use Rattle.just_invoke.proofs.Wholes.{late-memory}
 
 -- a set that has exactly the numbers asked for
@@ -43,7 +44,7 @@ module _ (displayed : List Text → Text) (root : Justfile) (values : ValuesAske
     made-shut d ended is opens executed = unmade d is (subst (λ used. OpensLazily e h handed root used old new (Err d)) (same-numbers values set are) opens) executed
 
     module _ (opened : List Opened) (opens : OpensLazily e h handed root set old new (Ok opened)) (lazy : AreLazyModules root set opened) (executed : executed_in new ≡ executed_in old) where
-      has-opened : HasOpenedLazily e h handed root values old new opened
+      has-opened : HasOpenedLazily e h handed root (numbers_of values) old new opened
       has-opened = record {
         steps = subst (λ used. OpensLazily e h handed root used old new (Ok opened)) (same-numbers values set are) opens;
         are = subst (λ used. AreLazyModules root used opened) (same-numbers values set are) lazy;

@@ -9,13 +9,13 @@ use Rattle.just_recipe.specs.declared.dependency.Dependency.{Dependency}
 use Rattle.just_recipe.specs.declared.recipe.Recipe.{Recipe}
 use Rattle.just_tail.specs.Words.{Words}
 use Rattle.just_justfile.specs.declared.justfile.Justfile.{Justfile}
-use Rattle.just_justfile.specs.Closed.{Held}
+use Rattle.just_justfile.specs.Closed.{HeldRecipes}
 use Rattle.just_invoke.specs.Cause.{InvocationFault}
 use Rattle.just_invoke.specs.Words.{has_colon, is_empty}
 use Rattle.just_invoke.specs.Head.{TakesDefault, WordsLead, WordsMislead, IsHead, NoHead, PathLeads, NoPath}
 
 -- the names end in a module, whose default is taken
-pub leads_default : (root : Justfile) (recipes : Held) (here : Justfile) (names : List (Bor Text)) (i : ℕ) (r : Recipe Dependency) → length names ≤ i → TakesDefault recipes here r →
+pub leads_default : (root : Justfile) (recipes : HeldRecipes) (here : Justfile) (names : List (Bor Text)) (i : ℕ) (r : Recipe Dependency) → length names ≤ i → TakesDefault recipes here r →
     ((head rest : Words) (r : Recipe Dependency) → WordsLead root recipes here head rest r → WordsLead root recipes root (texts (take i names) ++ head) rest r) →
     WordsLead root recipes root (texts (take (length names) names)) (texts (drop (length names) names)) r
 leads_default root recipes here names i r h p ok =
@@ -25,7 +25,7 @@ leads_default root recipes here names i r h p ok =
     subst (λ ws. WordsLead root recipes root ws (texts (drop (length names) names)) r) front
     (subst (λ ws. WordsLead root recipes root (texts (take i names) ++ []) ws r) rest (ok [] [] r (refl, p)))
 
-head_of_front : (root : Justfile) (recipes : Held) (word : Bor Text) (others : List (Bor Text)) (k : ℕ) (r : Recipe Dependency) → has_colon word.now ≡ false →
+head_of_front : (root : Justfile) (recipes : HeldRecipes) (word : Bor Text) (others : List (Bor Text)) (k : ℕ) (r : Recipe Dependency) → has_colon word.now ≡ false →
     WordsLead root recipes root (texts (take k (word ∷ others))) (texts (drop k (word ∷ others))) r → IsHead root recipes (texts (take k (word ∷ others))) (texts (drop k (word ∷ others))) r
 head_of_front root recipes word others zero r e p = p
 head_of_front root recipes word others (suc k) r e p =
@@ -33,7 +33,7 @@ head_of_front root recipes word others (suc k) r e p =
     (WordsLead root recipes root (texts (take (suc k) (word ∷ others))) (texts (drop (suc k) (word ∷ others))) r)) (sym e) p
 
 -- names in turn are a head where the first has no colon
-pub head_by_names : (root : Justfile) (recipes : Held) (words : List (Bor Text)) (word : Bor Text) (others : List (Bor Text)) (k : ℕ) (r : Recipe Dependency) →
+pub head_by_names : (root : Justfile) (recipes : HeldRecipes) (words : List (Bor Text)) (word : Bor Text) (others : List (Bor Text)) (k : ℕ) (r : Recipe Dependency) →
     words ≡ word ∷ others → has_colon word.now ≡ false →
     WordsLead root recipes root (texts (take k words)) (texts (drop k words)) r → IsHead root recipes (texts (take k words)) (texts (drop k words)) r
 head_by_names root recipes words word others k r e f =
@@ -43,21 +43,21 @@ empty_by_length : (others : List (Bor Text)) (last : Bool) → last ≡ eqb (len
 empty_by_length [] last e = e
 empty_by_length (x ∷ xs) last e = e ∙ eqb-suc-zero (length xs)
 
-head_of_path : (root : Justfile) (recipes : Held) (word : Bor Text) (others : List (Bor Text)) (last : Bool) (r : Recipe Dependency) → has_colon word.now ≡ true → last ≡ is_empty (texts others) →
+head_of_path : (root : Justfile) (recipes : HeldRecipes) (word : Bor Text) (others : List (Bor Text)) (last : Bool) (r : Recipe Dependency) → has_colon word.now ≡ true → last ≡ is_empty (texts others) →
     PathLeads root recipes last word.now r → IsHead root recipes (word.now ∷ []) (texts others) r
 head_of_path root recipes word others last r f g p =
     subst (λ b. MatchBool b ((texts [] ≡ []) × PathLeads root recipes (is_empty (texts others)) word.now r) (WordsLead root recipes root (word.now ∷ []) (texts others) r)) (sym f)
     (refl, subst (λ b. PathLeads root recipes b word.now r) g p)
 
 -- a word with a colon is a head where its path leads to a recipe
-pub head_by_path : (root : Justfile) (recipes : Held) (words : List (Bor Text)) (word : Bor Text) (others : List (Bor Text)) (last : Bool) (r : Recipe Dependency) →
+pub head_by_path : (root : Justfile) (recipes : HeldRecipes) (words : List (Bor Text)) (word : Bor Text) (others : List (Bor Text)) (last : Bool) (r : Recipe Dependency) →
     words ≡ word ∷ others → has_colon word.now ≡ true → last ≡ eqb (length others) 0 →
     PathLeads root recipes last word.now r → IsHead root recipes (texts (take 1 words)) (texts (drop 1 words)) r
 head_by_path root recipes words word others last r e f g p =
     subst (λ ws. IsHead root recipes (texts (take 1 ws)) (texts (drop 1 ws)) r) (sym e) (head_of_path root recipes word others last r f (empty_by_length others last g) p)
 
 -- a word with a colon is none where its path leads to no recipe
-pub no_head_by_path : (root : Justfile) (recipes : Held) (words : List (Bor Text)) (word : Bor Text) (others : List (Bor Text)) (last : Bool) (o : Option InvocationFault) →
+pub no_head_by_path : (root : Justfile) (recipes : HeldRecipes) (words : List (Bor Text)) (word : Bor Text) (others : List (Bor Text)) (last : Bool) (o : Option InvocationFault) →
     words ≡ word ∷ others → has_colon word.now ≡ true → last ≡ eqb (length others) 0 →
     IfSome o (NoPath root recipes last word.now) → IfSome o (NoHead root recipes (texts words))
 no_head_by_path root recipes words word others last None e f g p = p

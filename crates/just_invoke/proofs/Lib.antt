@@ -1,4 +1,5 @@
 pub mod Advancing
+pub mod Commands
 pub mod Decides
 pub mod Evaluations
 pub mod Faults

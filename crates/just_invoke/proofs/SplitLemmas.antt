@@ -9,7 +9,7 @@ use Rattle.just_recipe.specs.declared.recipe.Recipe.{Recipe}
 use Rattle.just_tail.specs.Cause as tail_cause
 use Rattle.just_tail.specs.Words.{Words}
 use Rattle.just_justfile.specs.declared.justfile.Justfile.{Justfile}
-use Rattle.just_justfile.specs.Closed.{Held, name_of}
+use Rattle.just_justfile.specs.Closed.{HeldRecipes, resolved_name}
 use Rattle.just_invoke.specs.Cause.{InvocationFault, with_recipe}
 use Rattle.just_invoke.specs.Head.{IsHead}
 use Rattle.just_invoke.specs.Split.{Counts, RecipeTakesArguments, NoArguments, Invoked, invoked_of, Invokes, Chain, IsSplit, NoInvocation, HasWordsFault}
@@ -30,7 +30,7 @@ some_left zero (w ∷ ws) h e = (cc)
 some_left (suc n) (w ∷ ws) h e = some_left n ws (omega arith) e
 
 -- a head of n words, and what stands after it
-module _ (counts : Counts) (root : Justfile) (recipes : Held) (words : List (Bor Text)) (n : ℕ) (r : Recipe Dependency) (rest : List (Bor Text))
+module _ (counts : Counts) (root : Justfile) (recipes : HeldRecipes) (words : List (Bor Text)) (n : ℕ) (r : Recipe Dependency) (rest : List (Bor Text))
     (rest_is : rest ≡ drop n words)
     (names : IsHead root recipes (texts (take n words)) (texts (drop n words)) r) where
   -- arguments of t words
@@ -48,7 +48,7 @@ module _ (counts : Counts) (root : Justfile) (recipes : Held) (words : List (Bor
       })
 
   -- no arguments
-  pub rejects_from : (why : tail_cause.ArgumentFault) (cause : InvocationFault) → NoArguments counts r (texts rest) why → cause ≡ with_recipe (name_of r) why → NoInvocation counts root recipes (texts words) cause
+  pub rejects_from : (why : tail_cause.ArgumentFault) (cause : InvocationFault) → NoArguments counts r (texts rest) why → cause ≡ with_recipe (resolved_name r) why → NoInvocation counts root recipes (texts words) cause
   rejects_from why cause stops says =
       inr (record {
         recipe = r;
@@ -71,13 +71,13 @@ if_some_at None x P p e = absurd (let f : ⊥ = (cc) in f)
 if_some_at (Some y) x P p e = let f : y ≡ x = (cc) in subst P f p
 
 -- invocations, and one more
-chain_push : (counts : Counts) (root : Justfile) (recipes : Held) (words mid rest : Words) (is : List Invoked) (i : Invoked) →
+chain_push : (counts : Counts) (root : Justfile) (recipes : HeldRecipes) (words mid rest : Words) (is : List Invoked) (i : Invoked) →
     Chain counts root recipes words is mid → Chain counts root recipes mid (i ∷ []) rest → Chain counts root recipes words (is ++ i ∷ []) rest
 chain_push counts root recipes words mid rest [] i p q = subst (λ ws. Chain counts root recipes ws (i ∷ []) rest) (sym p) q
 chain_push counts root recipes words mid rest (j ∷ js) i p q = (p.0, p.1, p.2, chain_push counts root recipes p.1 mid rest js i p.3 q)
 
 -- one more that is read
-pub chain_more : (counts : Counts) (root : Justfile) (recipes : Held) (words : List (Bor Text)) (n t : ℕ) (old new : List Invocation) (i : Invocation) (left : List (Bor Text)) → n < length words → left ≡ drop n words →
+pub chain_more : (counts : Counts) (root : Justfile) (recipes : HeldRecipes) (words : List (Bor Text)) (n t : ℕ) (old new : List Invocation) (i : Invocation) (left : List (Bor Text)) → n < length words → left ≡ drop n words →
     new ≡ old ++ i ∷ [] → Invokes counts root recipes (texts left) (texts (drop t left)) (invoked_of i) →
     Chain counts root recipes (texts words) (map invoked_of old) (texts (drop n words)) → Chain counts root recipes (texts words) (map invoked_of new) (texts (drop (n + t) words))
 chain_more counts root recipes words n t old new i left h same pushed invokes chain =
@@ -90,28 +90,28 @@ chain_more counts root recipes words n t old new i left h same pushed invokes ch
     (some_left n words h, texts (drop (n + t) words), here, refl))
 
 -- none begins after those that were read
-pub fault_after : (counts : Counts) (root : Justfile) (recipes : Held) (words : List (Bor Text)) (n : ℕ) (is : List Invoked) (left : List (Bor Text)) (cause : InvocationFault) → n < length words → left ≡ drop n words →
+pub fault_after : (counts : Counts) (root : Justfile) (recipes : HeldRecipes) (words : List (Bor Text)) (n : ℕ) (is : List Invoked) (left : List (Bor Text)) (cause : InvocationFault) → n < length words → left ≡ drop n words →
     Chain counts root recipes (texts words) is (texts (drop n words)) → NoInvocation counts root recipes (texts left) cause → HasWordsFault counts root recipes (texts words) cause
 fault_after counts root recipes words n is left cause h same chain stops =
     (is, texts (drop n words), chain, inl (some_left n words h), subst (λ ws. NoInvocation counts root recipes (texts ws) cause) same stops)
 
 -- all words are read
-pub chain_all : (counts : Counts) (root : Justfile) (recipes : Held) (words : List (Bor Text)) (n : ℕ) (is : List Invoked) → length words ≤ n →
+pub chain_all : (counts : Counts) (root : Justfile) (recipes : HeldRecipes) (words : List (Bor Text)) (n : ℕ) (is : List Invoked) → length words ≤ n →
     Chain counts root recipes (texts words) is (texts (drop n words)) → Chain counts root recipes (texts words) is []
 chain_all counts root recipes words n is h chain = subst (λ ws. Chain counts root recipes (texts words) is ws) (ap texts (drop_all n words h)) chain
 
 -- no words
-pub split_of_none : (counts : Counts) (root : Justfile) (recipes : Held) (words : List (Bor Text)) (k : ℕ) (is : List Invoked) (i : Invoked) → words ≡ [] → is ≡ i ∷ [] →
+pub split_of_none : (counts : Counts) (root : Justfile) (recipes : HeldRecipes) (words : List (Bor Text)) (k : ℕ) (is : List Invoked) (i : Invoked) → words ≡ [] → is ≡ i ∷ [] →
     Invokes counts root recipes (texts words) (texts (drop k words)) i → IsSplit counts root recipes (texts words) is
 split_of_none counts root recipes [] zero is i e f p = (i, f, p)
 split_of_none counts root recipes [] (suc k) is i e f p = (i, f, p)
 split_of_none counts root recipes (w ∷ ws) k is i e f p = absurd (let g : ⊥ = (cc) in g)
 
-pub fault_of_none : (counts : Counts) (root : Justfile) (recipes : Held) (words : List (Bor Text)) (cause : InvocationFault) → words ≡ [] → NoInvocation counts root recipes (texts words) cause → HasWordsFault counts root recipes (texts words) cause
+pub fault_of_none : (counts : Counts) (root : Justfile) (recipes : HeldRecipes) (words : List (Bor Text)) (cause : InvocationFault) → words ≡ [] → NoInvocation counts root recipes (texts words) cause → HasWordsFault counts root recipes (texts words) cause
 fault_of_none counts root recipes words cause e p = ([], texts words, refl, inr (ap texts e), p)
 
 -- words are at least one invocation
-pub split_some : (counts : Counts) (root : Justfile) (recipes : Held) (words : Words) (is : List Invoked) → IsSplit counts root recipes words is → 0 < length is
+pub split_some : (counts : Counts) (root : Justfile) (recipes : HeldRecipes) (words : Words) (is : List Invoked) → IsSplit counts root recipes words is → 0 < length is
 split_some counts root recipes [] is split = omega (arith, ap length split.1)
 split_some counts root recipes (w ∷ ws) [] split = absurd (let e : w ∷ ws ≡ [] = split in let f : ⊥ = (cc) in f)
 split_some counts root recipes (w ∷ ws) (i ∷ is) split = omega arith

@@ -7,7 +7,7 @@ use Rattle.just_recipe.specs.declared.dependency.Dependency.{Dependency}
 use Rattle.just_recipe.specs.declared.recipe.Recipe.{Recipe}
 use Rattle.just_tail.specs.Words.{Words}
 use Rattle.just_justfile.specs.declared.justfile.Justfile.{Justfile}
-use Rattle.just_justfile.specs.Closed.{Held}
+use Rattle.just_justfile.specs.Closed.{HeldRecipes}
 use Rattle.just_invoke.specs.Words.{IsPathWord, has_colon, is_empty}
 use Rattle.just_invoke.specs.Meaning.{Meaning, a_module, a_recipe, disabled_recipe, disabled_alias, absent_module, nothing, meaning}
 use Rattle.just_invoke.specs.Head.{MeaningLeads, WordsLead, IsHead, PathLeads}
@@ -29,7 +29,7 @@ leads_step (disabled_alias modules) On Onn xs ys a b r s e on p q = absurd p
 leads_step absent_module On Onn xs ys a b r s e on p q = absurd p
 leads_step nothing On Onn xs ys a b r s e on p q = absurd p
 
-pub leads_once : (root : Justfile) (recipes : Held) (here : Justfile) (xs ys a b : Words) (r s : Recipe Dependency) → xs ++ a ≡ ys ++ b →
+pub leads_once : (root : Justfile) (recipes : HeldRecipes) (here : Justfile) (xs ys a b : Words) (r s : Recipe Dependency) → xs ++ a ≡ ys ++ b →
     WordsLead root recipes here xs a r → WordsLead root recipes here ys b s → Agree xs ys a b r s
 leads_once root recipes here [] [] a b r s e p q =
     let f : Some r ≡ Some s = sym p.1.0 ∙ q.1.0 in
@@ -48,12 +48,12 @@ pub path_word_once : (last : Bool) (word : Text) (cs ds : Words) → IsPathWord 
 path_word_once true word cs ds p q = argument_path_once word cs ds p q
 path_word_once false word cs ds p q = word_path_once word cs ds p q
 
-path_leads_once : (root : Justfile) (recipes : Held) (last : Bool) (word : Text) (r s : Recipe Dependency) → PathLeads root recipes last word r → PathLeads root recipes last word s → r ≡ s
+path_leads_once : (root : Justfile) (recipes : HeldRecipes) (last : Bool) (word : Text) (r s : Recipe Dependency) → PathLeads root recipes last word r → PathLeads root recipes last word s → r ≡ s
 path_leads_once root recipes last word r s p q =
     let same = path_word_once last word p.0 q.0 p.1 q.1 in
     (leads_once root recipes root q.0 q.0 [] [] r s refl (subst (λ names. WordsLead root recipes root names [] r) same p.2) q.2).2
 
-head_step : (root : Justfile) (recipes : Held) (w : Text) (xs ys a b : Words) (r s : Recipe Dependency) (colon : Bool) → xs ++ a ≡ ys ++ b →
+head_step : (root : Justfile) (recipes : HeldRecipes) (w : Text) (xs ys a b : Words) (r s : Recipe Dependency) (colon : Bool) → xs ++ a ≡ ys ++ b →
     MatchBool colon ((xs ≡ []) × PathLeads root recipes (is_empty a) w r) (WordsLead root recipes root (w ∷ xs) a r) →
     MatchBool colon ((ys ≡ []) × PathLeads root recipes (is_empty b) w s) (WordsLead root recipes root (w ∷ ys) b s) → Agree (w ∷ xs) (w ∷ ys) a b r s
 head_step root recipes w xs ys a b r s true e p q =
@@ -64,7 +64,7 @@ head_step root recipes w xs ys a b r s true e p q =
     )
 head_step root recipes w xs ys a b r s false e p q = leads_once root recipes root (w ∷ xs) (w ∷ ys) a b r s (ap (λ t. w ∷ t) e) p q
 
-pub head_once : (root : Justfile) (recipes : Held) (xs ys a b : Words) (r s : Recipe Dependency) → xs ++ a ≡ ys ++ b →
+pub head_once : (root : Justfile) (recipes : HeldRecipes) (xs ys a b : Words) (r s : Recipe Dependency) → xs ++ a ≡ ys ++ b →
     IsHead root recipes xs a r → IsHead root recipes ys b s → Agree xs ys a b r s
 head_once root recipes [] [] a b r s e p q = leads_once root recipes root [] [] a b r s e p q
 head_once root recipes [] (y ∷ ys) a b r s e p q = absurd (let f = p.0 in let g : ⊥ = (cc) in g)
@@ -75,7 +75,7 @@ head_once root recipes (x ∷ xs) (y ∷ ys) a b r s e p q =
     let t = head_step root recipes x xs ys a b r s (has_colon x) tails p (subst (λ z. IsHead root recipes (z ∷ ys) b s) (sym same) q) in
     ((let h : x ∷ xs ≡ x ∷ ys = t.0 in (cc)), t.1, t.2)
 
-pub invokes_once : (counts : Counts) (root : Justfile) (recipes : Held) (words a b : Words) (i j : Invoked) → Invokes counts root recipes words a i → Invokes counts root recipes words b j → (a ≡ b) × (i ≡ j)
+pub invokes_once : (counts : Counts) (root : Justfile) (recipes : HeldRecipes) (words a b : Words) (i j : Invoked) → Invokes counts root recipes words a i → Invokes counts root recipes words b j → (a ≡ b) × (i ≡ j)
 invokes_once counts root recipes words a b i j p q =
     let heads = head_once root recipes p.head q.head (p.tail ++ a) (q.tail ++ b) i.recipe j.recipe (sym p.whole ∙ q.whole) p.names q.names in
     let same : i.recipe ≡ j.recipe = heads.2 in
@@ -84,7 +84,7 @@ invokes_once counts root recipes words a b i j p q =
     let P : Recipe Dependency → List Words → Invoked = λ r g. record { recipe = r; groups = g } in
     (tails.1, ap (λ r. P r i.groups) same ∙ ap (λ g. P j.recipe g) tails.2)
 
-chain_once : (counts : Counts) (root : Justfile) (recipes : Held) (words : Words) (is js : List Invoked) → Chain counts root recipes words is [] → Chain counts root recipes words js [] → is ≡ js
+chain_once : (counts : Counts) (root : Justfile) (recipes : HeldRecipes) (words : Words) (is js : List Invoked) → Chain counts root recipes words is [] → Chain counts root recipes words js [] → is ≡ js
 chain_once counts root recipes words [] [] p q = refl
 chain_once counts root recipes words [] (j ∷ js) p q = absurd (q.0 p)
 chain_once counts root recipes words (i ∷ is) [] p q = absurd (p.0 q)
@@ -93,16 +93,16 @@ chain_once counts root recipes words (i ∷ is) (j ∷ js) p q =
     let rest = chain_once counts root recipes q.1 is js (subst (λ ws. Chain counts root recipes ws is []) o.0 p.3) q.3 in
     ap (λ k. k ∷ is) o.1 ∙ ap (λ ks. j ∷ ks) rest
 
-pub split_once : (counts : Counts) (root : Justfile) (recipes : Held) (words : Words) (is js : List Invoked) → IsSplit counts root recipes words is → IsSplit counts root recipes words js → is ≡ js
+pub split_once : (counts : Counts) (root : Justfile) (recipes : HeldRecipes) (words : Words) (is js : List Invoked) → IsSplit counts root recipes words is → IsSplit counts root recipes words js → is ≡ js
 split_once counts root recipes [] is js p q =
     let o = invokes_once counts root recipes [] [] [] p.0 q.0 p.2 q.2 in
     p.1 ∙ ap (λ i. i ∷ []) o.1 ∙ sym q.1
 split_once counts root recipes (w ∷ ws) is js p q = chain_once counts root recipes (w ∷ ws) is js p q
 
-head_takes : (root : Justfile) (recipes : Held) (words head tail after : Words) (r : Recipe Dependency) → words ≢ [] → words ≡ head ++ (tail ++ after) →
+head_takes : (root : Justfile) (recipes : HeldRecipes) (words head tail after : Words) (r : Recipe Dependency) → words ≢ [] → words ≡ head ++ (tail ++ after) →
     IsHead root recipes head (tail ++ after) r → length after < length words
 head_takes root recipes words [] tail after r h e p = absurd (h (e ∙ p.0))
 head_takes root recipes words (x ∷ xs) tail after r h e p = omega (arith, ap length e, length-append xs (tail ++ after), length-append tail after)
 
-pub invokes_takes : (counts : Counts) (root : Justfile) (recipes : Held) (words after : Words) (i : Invoked) → words ≢ [] → Invokes counts root recipes words after i → length after < length words
+pub invokes_takes : (counts : Counts) (root : Justfile) (recipes : HeldRecipes) (words after : Words) (i : Invoked) → words ≢ [] → Invokes counts root recipes words after i → length after < length words
 invokes_takes counts root recipes words after i h p = head_takes root recipes words p.head p.tail after i.recipe h p.whole p.names

@@ -1,5 +1,5 @@
 -- The whole run, put together from its parts.
-use Rattle.std.proofs.Common.{◌≡◌, ◌∙◌, ◌++◌, List, [], ◌∷◌, Option, Ok, Err, refl, sym, ap, subst, inl, inr}
+use Rattle.std.proofs.Common.{◌≡◌, ◌∙◌, List, [], ◌∷◌, Option, Ok, Err, refl, sym, ap, subst, inl, inr}
 use Rattle.std.specs.Prelude.{Result}
 use Rattle.just_errors.specs.Halts.{come_to, without}
 use Rattle.just_errors.specs.declared.error.Error.{Error}
@@ -15,7 +15,7 @@ use Rattle.just_recipe.specs.declared.recipe.Recipe.{Recipe}
 use Rattle.just_run_layers.proofs.InteractionLemmas.{after-none, follows-asked, keeps-both, took-kept}
 use Rattle.just_run_layers.specs.Evaluation.{Inquiry}
 use Rattle.just_run_layers.specs.Host.{Answer, KeepsPromises}
-use Rattle.just_run_layers.specs.Interactions.{Ask, Fail, IsTraceOrPrefix, Return, ArePromised, Log, Question, Interaction, ToEvaluator, ToHost, HasTrace, logged, logged_all, and_then, both, executed_in, result_under, trace_under}
+use Rattle.just_run_layers.specs.Interactions.{Ask, Fail, IsTraceOrPrefix, Return, ArePromised, Log, Question, Interaction, HasTrace, logged, and_then, both, executed_in, result_under, trace_under}
 use Rattle.just_run_layers.specs.declared.host.Entry.{Entry}
 use Rattle.just_scopes.specs.Opening.{Front, Opened, all_opened, scene_of}
 use Rattle.just_invoke.specs.Results.{RunsInScene, RunsOpen, RunEndsAs, out, ran, shut}

@@ -23,7 +23,7 @@ use Rattle.just_run_layers.specs.Host.{Answer}
 use Rattle.just_run_layers.specs.Interactions.{Return, ArePromised, IsTraceOrPrefix, Log, Question, Interaction, and_then, both, executed_in, result_under, trace_under}
 use Rattle.just_run_layers.specs.declared.host.Entry.{Entry}
 use Rattle.just_scopes.specs.Need.{AreNeedsFrom, NumberSets}
-use Rattle.just_scopes.specs.Open.{AreLazyModules, OpensLazily}
+use Rattle.just_scopes.specs.Open.{OpensLazily}
 use Rattle.just_scopes.specs.Opening.{Handed, Opened, all_opened, scope_at}
 use Rattle.just_scopes.specs.Preorder.{IsPreorderUnder, Placed}
 use Rattle.just_evaluate.specs.Asked.{variables_asked}
@@ -31,15 +31,25 @@ use Rattle.just_evaluate.specs.Destination.{TellsLack, destination, leads_to}
 use Rattle.just_evaluate.specs.Lines.{evaluated_text}
 use Rattle.just_evaluate.specs.Writing.{IsCutShort}
 use Rattle.just_evaluate.specs.declared.evaluation_target.EvaluationTarget.{EvaluationTarget}
+use Rattle.just_invoke.specs.Lazily.{HasOpenedLazily}
 
--- recipes run where no values are to be written; where a program is to run in their place they do so too
+-- recipes run where neither a program is to run nor values are to be written
 abbrev pub runs_recipes : Subcommand → Bool
 runs_recipes subcommand.Run = true
-runs_recipes (subcommand.Command binary arguments) = true
+runs_recipes (subcommand.Command binary arguments) = false
 runs_recipes (subcommand.Evaluate format path) = false
 
 abbrev pub RunsRecipes : Config → Type 0
 RunsRecipes config = runs_recipes config.subcommand ≡ true
+
+-- nothing is written where no values are to be
+abbrev pub writes_nothing : Subcommand → Bool
+writes_nothing subcommand.Run = true
+writes_nothing (subcommand.Command binary arguments) = true
+writes_nothing (subcommand.Evaluate format path) = false
+
+abbrev pub WritesNothing : Config → Type 0
+WritesNothing config = writes_nothing config.subcommand ≡ true
 
 -- values are to be written: in a format, those to which a path leads
 abbrev pub AsksForValues : Config → EvaluateFormat → Option Modulepath → Type 0
@@ -67,12 +77,6 @@ numbers_of values n = list_any (λ (a : Assignment). same_number n a.number) (va
 abbrev pub text_in : (List Text → Text) → ValuesAsked → List Opened → Text
 text_in displayed values opened = evaluated_text displayed values.format values.justfile values.variable (scope_at (out-Justfile values.justfile).module_path opened)
 
--- For every host: the modules were opened lazily from the numbers of values, in which nothing was executed; exactly what is needed from these is bound.
-pub record HasOpenedLazily (evaluator : Inquiry → Option Answer) (host : Entry → Option Answer) (handed : Handed) (root : Justfile) (values : ValuesAsked) (old new : Log) (opened : List Opened) : Type 0 where
-  pub steps : OpensLazily evaluator host handed root (numbers_of values) old new (Ok opened)
-  pub are : AreLazyModules root (numbers_of values) opened
-  pub unexecuted : executed_in new ≡ executed_in old
-
 -- what a writer has, and whether it faulted
 pub record Writer : Type 0 where
   pub written : List ℕ
@@ -95,7 +99,7 @@ pub data IsEvaluation (displayed : List Text → Text) (root : Justfile) (handed
       OpensLazily evaluator host handed root (numbers_of values) old new (Err e) → executed_in new ≡ executed_in old → after ≡ before →
       IsEvaluation displayed root handed evaluator host format path old new before after result
   evaluated : (values : ValuesAsked) (opened : List Opened) → LeadsToValues root format path values →
-      HasOpenedLazily evaluator host handed root values old new opened → IsTextWritten (text_in displayed values opened) before after result →
+      HasOpenedLazily evaluator host handed root (numbers_of values) old new opened → IsTextWritten (text_in displayed values opened) before after result →
       IsEvaluation displayed root handed evaluator host format path old new before after result
 
 -- the steps to the text of values: by sets of what is needed the modules are opened in order, and nothing more is asked
@@ -120,5 +124,5 @@ pub data IsTextMade (displayed : List Text → Text) (root : Justfile) (values :
     (evaluator : Inquiry → Option Answer) (host : Entry → Option Answer) (old new : Log) (result : Result Text Halt) : Type 0 where
   unmade : (e : Halt) → result ≡ Err e → OpensLazily evaluator host handed root (numbers_of values) old new (Err e) → executed_in new ≡ executed_in old →
       IsTextMade displayed root values handed evaluator host old new result
-  made : (opened : List Opened) → HasOpenedLazily evaluator host handed root values old new opened → result ≡ Ok (text_in displayed values opened) →
+  made : (opened : List Opened) → HasOpenedLazily evaluator host handed root (numbers_of values) old new opened → result ≡ Ok (text_in displayed values opened) →
       IsTextMade displayed root values handed evaluator host old new result

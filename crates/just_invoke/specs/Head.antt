@@ -8,7 +8,7 @@ use Rattle.just_recipe.specs.declared.recipe.Recipe.{Recipe}
 use Rattle.just_tail.specs.Words.{Words}
 use Rattle.just_justfile.specs.declared.justfile.Justfile.{Justfile, out-Justfile}
 use Rattle.just_justfile.specs.declared.justfile.RecipeKey.{RecipeKey}
-use Rattle.just_justfile.specs.Closed.{Held, default_recipe, name_of, path_on}
+use Rattle.just_justfile.specs.Closed.{HeldRecipes, default_recipe, resolved_name, path_on}
 use Rattle.just_invoke.specs.Words.{IsPathWord, has_colon, is_empty}
 use Rattle.just_invoke.specs.Cause.{InvocationFault, unknown_recipe, unknown_submodule, expected_submodule, recipe_disabled, alias_disabled, module_absent, no_recipes, no_default, default_requires}
 use Rattle.just_invoke.specs.Meaning.{Meaning, a_module, a_recipe, disabled_recipe, disabled_alias, absent_module, nothing, meaning, path_text}
@@ -16,7 +16,7 @@ use Rattle.just_invoke.specs.declared.walk.Step.{Step}
 use Rattle.just_invoke.specs.declared.walk.Step.TheVariants as step
 
 -- the module's default, which needs no argument
-abbrev pub TakesDefault : Held → Justfile → Recipe Dependency → Type 0
+abbrev pub TakesDefault : HeldRecipes → Justfile → Recipe Dependency → Type 0
 TakesDefault recipes here r = (default_recipe here recipes ≡ Some r) × (least_arguments r.parameters ≡ 0)
 
 -- a name of this meaning leads to the recipe: to a module, from which the names lead on, or to the recipe itself, if no name follows
@@ -29,17 +29,17 @@ MeaningLeads absent_module On names r = ⊥
 MeaningLeads nothing On names r = ⊥
 
 -- the names lead from a module to the recipe, before the rest of the words; they may end in a module only where nothing follows them
-abbrev pub WordsLead : Justfile → Held → Justfile → Words → Words → Recipe Dependency → Type 0
+abbrev pub WordsLead : Justfile → HeldRecipes → Justfile → Words → Words → Recipe Dependency → Type 0
 WordsLead root recipes here [] rest r = (rest ≡ []) × TakesDefault recipes here r
 WordsLead root recipes here (n ∷ ns) rest r =
     MeaningLeads (meaning root recipes here n) (λ next. WordsLead root recipes next ns rest r) ns r
 
 -- the word is a path that leads to the recipe
-abbrev pub PathLeads : Justfile → Held → Bool → Text → Recipe Dependency → Type 0
+abbrev pub PathLeads : Justfile → HeldRecipes → Bool → Text → Recipe Dependency → Type 0
 PathLeads root recipes last word r = (names : Words) × IsPathWord last word names × WordsLead root recipes root names [] r
 
 -- the front of the words that names the recipe, before the rest of them
-abbrev pub IsHead : Justfile → Held → Words → Words → Recipe Dependency → Type 0
+abbrev pub IsHead : Justfile → HeldRecipes → Words → Words → Recipe Dependency → Type 0
 IsHead root recipes [] rest r = WordsLead root recipes root [] rest r
 IsHead root recipes (w ∷ ws) rest r =
     MatchBool (has_colon w)
@@ -49,7 +49,7 @@ IsHead root recipes (w ∷ ws) rest r =
 -- why no default is taken, by the module's table and its default
 abbrev pub NoDefault : List (Text × RecipeKey) → Option (Recipe Dependency) → InvocationFault → Type 0
 NoDefault table (Some r) cause =
-    ((least_arguments r.parameters ≡ 0) → ⊥) × (cause ≡ default_requires (name_of r) (least_arguments r.parameters))
+    ((least_arguments r.parameters ≡ 0) → ⊥) × (cause ≡ default_requires (resolved_name r) (least_arguments r.parameters))
 NoDefault [] None cause = cause ≡ no_recipes
 NoDefault (_ ∷ _) None cause = cause ≡ no_default
 
@@ -77,20 +77,20 @@ abbrev pub place_of : Justfile → Text → Text
 place_of here name = path_text (path_on (out-Justfile here).module_path name)
 
 -- why the names lead from a module to no recipe, after those of `path`; `one` says that they are one word
-abbrev pub WordsMislead : Justfile → Held → Justfile → Bool → Words → Words → InvocationFault → Type 0
+abbrev pub WordsMislead : Justfile → HeldRecipes → Justfile → Bool → Words → Words → InvocationFault → Type 0
 WordsMislead root recipes here one path [] cause = NoDefault (out-Justfile here).recipes (default_recipe here recipes) cause
 WordsMislead root recipes here one path (n ∷ ns) cause =
     MeaningMisleads (meaning root recipes here n) (λ next. WordsMislead root recipes next one (path ++ n ∷ []) ns cause)
     one (goes_on one ns) (path ++ n ∷ []) (place_of here n) cause
 
 -- why the word is no path to a recipe
-abbrev pub NoPath : Justfile → Held → Bool → Text → InvocationFault → Type 0
+abbrev pub NoPath : Justfile → HeldRecipes → Bool → Text → InvocationFault → Type 0
 NoPath root recipes last word cause =
     (((names : Words) → IsPathWord last word names → ⊥) × (cause ≡ unknown_recipe word))
     ⊎ ((names : Words) × IsPathWord last word names × WordsMislead root recipes root true [] names cause)
 
 -- why the words begin with no head
-abbrev pub NoHead : Justfile → Held → Words → InvocationFault → Type 0
+abbrev pub NoHead : Justfile → HeldRecipes → Words → InvocationFault → Type 0
 NoHead root recipes [] cause = WordsMislead root recipes root false [] [] cause
 NoHead root recipes (w ∷ ws) cause =
     MatchBool (has_colon w)
@@ -103,10 +103,10 @@ IsStep m go (step.On next) = m ≡ a_module next.now
 IsStep m go (step.End r) = (m ≡ a_recipe r.now) × (go ≡ false)
 
 -- where names end: in a module, whose default is taken or is none, or at a recipe
-abbrev pub IsEnd : Held → Step → Recipe Dependency → Type 0
+abbrev pub IsEnd : HeldRecipes → Step → Recipe Dependency → Type 0
 IsEnd recipes (step.On here) r = TakesDefault recipes here.now r
 IsEnd recipes (step.End found) r = r ≡ found.now
 
-abbrev pub IsNoEnd : Held → Step → InvocationFault → Type 0
+abbrev pub IsNoEnd : HeldRecipes → Step → InvocationFault → Type 0
 IsNoEnd recipes (step.On here) cause = NoDefault (out-Justfile here.now).recipes (default_recipe here.now recipes) cause
 IsNoEnd recipes (step.End found) cause = ⊥

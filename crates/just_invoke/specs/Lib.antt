@@ -1,6 +1,8 @@
 pub mod Cause
+pub mod Command
 pub mod Evaluation
 pub mod Head
+pub mod Lazily
 pub mod Meaning
 pub mod Outcome
 pub mod Results

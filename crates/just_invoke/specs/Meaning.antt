@@ -1,17 +1,17 @@
 -- What a name means in a module.
 use Rattle.std.specs.Prelude.{if◌then◌else◌, Option, Some, None, is_some, List, map}
 use Rattle.std.specs.BTreeSet.{BTreeSet}
-use Rattle.std.specs.Option.{option_and_then, option_map}
-use Rattle.just_ast_definitions.specs.declared.alias.Alias.{Alias}
+use Rattle.std.specs.Option.{option_map}
 use Rattle.just_names.specs.Texts.{Text, text_of}
 use Rattle.just_paths.specs.declared.modulepath.Modulepath.{Modulepath}
 use Rattle.just_recipe.specs.declared.dependency.Dependency.{Dependency}
 use Rattle.just_recipe.specs.declared.recipe.Recipe.{Recipe}
 use Rattle.just_table.specs.Entries.{find}
-use Rattle.just_justfile.specs.Closed.{Held, recipe_aliased, recipe_named}
-use Rattle.just_justfile.specs.Walks.{inner_along, module_named}
+use Rattle.just_justfile.specs.Closed.{HeldRecipes, recipe_aliased, recipe_named}
+use Rattle.just_justfile.specs.Walks.{module_named}
 use Rattle.just_justfile.specs.declared.disabled.Disabled.{Disabled}
 use Rattle.just_justfile.specs.declared.justfile.Justfile.{Justfile, out-Justfile}
+use Rattle.just_evaluate.specs.Destination.{submodule_aliased}
 use Rattle.just_invoke.specs.declared.lookup.Found.{Found}
 use Rattle.just_invoke.specs.declared.lookup.Found.TheVariants as found
 
@@ -31,11 +31,6 @@ path_text path = text_of path.components path.spaced
 abbrev pub path_texts : BTreeSet Modulepath → List Text
 path_texts paths = map path_text paths.keys
 
--- the module for which an alias stands: that to which its path leads from the root
-abbrev pub aliased_module : Justfile → Justfile → Text → Option Justfile
-aliased_module root here name =
-    option_and_then (λ (alias : Alias Modulepath). inner_along root alias.target.components) (find name (out-Justfile here).aliases.modules)
-
 -- the modules that disable a recipe, or an alias, of the name
 abbrev pub disabling : List (Text × Disabled) → Text → Option (List Text)
 disabling table name = option_map (λ (it : Disabled). path_texts it.modules) (find name table)
@@ -46,10 +41,10 @@ found_or f (Some x) other = f x
 found_or f None other = other
 
 -- what the name means in the module, the first that applies
-abbrev pub meaning : Justfile → Held → Justfile → Text → Meaning
+abbrev pub meaning : Justfile → HeldRecipes → Justfile → Text → Meaning
 meaning root recipes here name =
     found_or a_module (module_named name (out-Justfile here).modules)
-    (found_or a_module (aliased_module root here name)
+    (found_or a_module (submodule_aliased root here name)
     (found_or a_recipe (recipe_named here recipes name)
     (found_or a_recipe (recipe_aliased here recipes name)
     (found_or disabled_recipe (disabling (out-Justfile here).disabled_recipes name)

@@ -1,5 +1,5 @@
 //! The front of the words that names a recipe.
-ghost use Rattle.std.specs.Prelude.{◌≡◌, ◌≤◌, ◌<◌, [], true, IfOk, IfErr, IfSome, length, take, drop};
+ghost use Rattle.std.specs.Prelude.{◌≤◌, ◌<◌, [], true, IfOk, IfErr, IfSome, length, take, drop};
 ghost use Rattle.just_names.specs.Texts.{texts};
 ghost use Rattle.just_justfile.specs.Walks.{AreModulesOrdered};
 ghost use Rattle.just_invoke.specs.Cause.{cause_of, IsOfWords};

@@ -4,8 +4,8 @@ ghost use Rattle.std.specs.List.{All};
 ghost use Rattle.just_names.specs.Texts.{texts};
 ghost use Rattle.just_parts.specs.Evaluator.{count_fault_of};
 ghost use Rattle.just_tail.specs.Cause as tail;
-ghost use Rattle.just_tail.specs.Words.{shown};
-ghost use Rattle.just_justfile.specs.Closed.{IsHeld, name_of};
+ghost use Rattle.just_tail.specs.Words.{as_texts};
+ghost use Rattle.just_justfile.specs.Closed.{IsHeld, resolved_name};
 ghost use Rattle.just_justfile.specs.Walks.{AreModulesOrdered};
 ghost use Rattle.just_invoke.specs.Cause.{cause_of, with_recipe, IsOfWords};
 ghost use Rattle.just_invoke.specs.Split.{RecipeTakesArguments, NoArguments, invoked_of, Invokes, Chain, IsSplit, NoInvocation, HasWordsFault};
@@ -58,7 +58,7 @@ impl InvocationParser {
 
 // The error of a recipe that takes no arguments.
 fn rejected<'src>(recipe: &Recipe<'src>, error: TailError<'src>) -> Error<'src>
-    ensures cause { IfSome (cause_of result) (λ cause. option_map (with_recipe (name_of recipe.now)) (tail.cause_of error.entry) ≡ Some cause) }
+    ensures cause { IfSome (cause_of result) (λ cause. option_map (with_recipe (resolved_name recipe.now)) (tail.tail_cause_of error.entry) ≡ Some cause) }
     ensures words { IsOfWords result }
 {
     let recipe = BorrowedText::new(recipe.name.lexeme());
@@ -107,8 +107,8 @@ fn take_tail<'src, 'words, E: ConstantEvaluation>(
 ) -> Result<Tail<'words>, TailError<'src>>
     ensures within { IfOk result (λ t. t.taken ≤ length words.now) }
     ensures ok { let takes = RecipeTakesArguments (count_fault_of (E.answers evaluation.now)) recipe.now in
-        IfOk result (λ t. takes (texts (take t.taken words.now)) (texts (drop t.taken words.now)) (shown t.groups.items)) }
-    ensures err { IfErr result (λ e. IfSome (tail.cause_of e) (NoArguments (count_fault_of (E.answers evaluation.now)) recipe.now (texts words.now))) }
+        IfOk result (λ t. takes (texts (take t.taken words.now)) (texts (drop t.taken words.now)) (as_texts t.groups.items)) }
+    ensures err { IfErr result (λ e. IfSome (tail.tail_cause_of e) (NoArguments (count_fault_of (E.answers evaluation.now)) recipe.now (texts words.now))) }
 {
     take_arguments(
         alloc,

@@ -1,6 +1,7 @@
-//! What command words mean in a module of modules, the run of what they mean, and the form Evaluate.
+//! What command words mean in a module of modules, the run of what they mean, and the forms Command and Evaluate.
 #![tactic(auto)]
 
+mod command_run;
 mod evaluate_run;
 mod groups;
 mod head;

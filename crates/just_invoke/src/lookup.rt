@@ -2,9 +2,9 @@
 ghost use Rattle.std.specs.Prelude.{◌≡◌, option_map};
 ghost use Rattle.std.specs.Option.{option_copied};
 ghost use Rattle.just_justfile.specs.Walks.{AreModulesOrdered};
-ghost use Rattle.just_justfile.specs.declared.justfile.Justfile.{out-Justfile};
-ghost use Rattle.just_invoke.specs.Meaning.{aliased_module, disabling, meaning, meaning_of, path_texts};
+ghost use Rattle.just_invoke.specs.Meaning.{disabling, meaning, meaning_of, path_texts};
 
+use just_evaluate::submodule_aliased;
 use just_justfile::{Disabled, Justfile, find_module};
 use just_parts::Recipe;
 use just_paths::Modulepath;
@@ -27,21 +27,6 @@ pub(crate) enum Found<'run, 'src> {
     AbsentModule,
     /// Nothing.
     Nothing,
-}
-
-// The module for which an alias stands.
-fn aliased_module<'run, 'src>(
-    root: &'run Justfile<'src>,
-    here: &Justfile<'src>,
-    name: &str,
-) -> Option<&'run Justfile<'src>>
-    requires { AreModulesOrdered root.now }
-    ensures { option_copied result ≡ aliased_module root.now here.now name.now }
-{
-    match here.aliases.modules.get(name) {
-        Some(alias) => root.submodule(&alias.target),
-        None => None,
-    }
 }
 
 // The modules that disable what has the name.
@@ -72,7 +57,7 @@ pub(crate) fn look_up<'run, 'src>(
     if let Some(module) = find_module(here.modules.as_slice(), name) {
         return Found::Module(module);
     }
-    if let Some(module) = aliased_module(root, here, name) {
+    if let Some(module) = submodule_aliased(root, here, name) {
         return Found::Module(module);
     }
     if let Some(recipe) = here.own_recipe(recipes, name) {

@@ -1,4 +1,4 @@
-//! The run of a module: of what command words mean, or of the form Evaluate.
+//! The run of a module: of what command words mean, or of the forms Command and Evaluate.
 ghost use Rattle.std.specs.Prelude.{◌≡◌, ◌≤◌, true, length, IfErr, OnOk};
 ghost use Rattle.just_justfile.specs.Running.{CanRun, HoldsOverridden, TellsBareLines};
 ghost use Rattle.just_justfile.specs.declared.justfile.Justfile.{Justfile};
@@ -10,6 +10,7 @@ ghost use Rattle.just_run_layers.specs.LineTexts.{AgreesWith};
 ghost use Rattle.just_scopes.specs.Opening.{front_of};
 ghost use Rattle.just_invoke.specs.Outcome.{IsExcess, IsOutcome, RunsAsExpected};
 
+use crate::command_run::run_command;
 use crate::evaluate_run::run_evaluate;
 use crate::invocation::Invocation;
 use crate::invocation_parser::InvocationParser;
@@ -100,7 +101,8 @@ pub trait Run<'src> {
     ghost use Rattle.just_run_layers.specs.Interactions.{log_of};
     ghost use Rattle.just_names.specs.Texts.{texts};
     ghost use Rattle.just_justfile.specs.Running.{CanRun, HoldsOverridden, TellsBareLines};
-    ghost use Rattle.just_invoke.specs.Evaluation.{AsksForValues, IsEvaluation, IsEvaluationAsExpected, RunsRecipes, writer_of};
+    ghost use Rattle.just_invoke.specs.Command.{AsksForProgram, IsProgramRun, IsProgramRunAsExpected};
+    ghost use Rattle.just_invoke.specs.Evaluation.{AsksForValues, IsEvaluation, IsEvaluationAsExpected, RunsRecipes, WritesNothing, writer_of};
     ghost use Rattle.just_invoke.specs.Outcome.{RunsAsExpected, IsOutcome};
     ghost use Rattle.just_scopes.specs.Opening.{front_of, handed_of};
 
@@ -116,7 +118,14 @@ pub trait Run<'src> {
     /// prior dependencies before it, and its subsequent ones after it under a table of their own. A recipe that runs is asked
     /// for its parameters, its confirmation and the arguments of its dependencies; then it begins, and its body runs. The run
     /// ends at the first step that fails, with its error. Where the words are refused, the host is left as it was; where the
-    /// modules do not open, nothing is executed. The writer is asked nothing. The form Command does the same until it is built.
+    /// modules do not open, nothing is executed. The writer is asked nothing.
+    ///
+    /// In the form Command no words are read and no recipe runs. The modules are opened as above, each as a lazy one, for exactly
+    /// what is evaluated anyhow and what that reads. Then the evaluation is asked for the environment, by what the root has, and
+    /// the host is handed the program: with the shell of the root's settings, where the configuration lets a shell run it, and in
+    /// the configuration's folder, or the root's where it has none. The report is that of no once table. `CommandInvoke` comes
+    /// where the program does not start, `CommandStatus` where it ends without code 0, whatever the run was sent meanwhile, and
+    /// `Interrupted` where it succeeds and the run was sent a signal. The writer is asked nothing.
     ///
     /// In the form Evaluate no words are read and no recipe runs. The path that the configuration asks for leads to a variable
     /// or a module (`just_evaluate` has how, and the errors where it leads nowhere: then nothing is asked). The modules are
@@ -162,9 +171,21 @@ pub trait Run<'src> {
             let first = log_of (H.entries host.old) (E.requests evaluation.old) in
             let last = log_of (H.entries host.new) (E.requests evaluation.new) in
             RunsRecipes config.now → run first last result }
-        // The writer is left as it was.
-        ensures unwritten { RunsRecipes config.now → W.written writer.new ≡ W.written writer.old }
-        ensures unfailed { RunsRecipes config.now → W.failed writer.new ≡ W.failed writer.old }
+        // Where a program runs in their place: for every host.
+        ensures commanded { let first = log_of (H.entries host.old) (E.requests evaluation.old) in
+            let last = log_of (H.entries host.new) (E.requests evaluation.new) in
+            let handed = handed_of config.now overrides.now in
+            let comes = IsProgramRun (root self.now) handed (E.promised evaluation.old) (H.promised host.old) in
+            (program : _) → AsksForProgram config.now program → comes program first last result }
+        // For promised answers.
+        ensures commanded_expected { let first = log_of (H.entries host.old) (E.requests evaluation.old) in
+            let last = log_of (H.entries host.new) (E.requests evaluation.new) in
+            let handed = handed_of config.now overrides.now in
+            let run = IsProgramRunAsExpected (root self.now) handed (E.promised evaluation.old) (H.promised host.old) in
+            (program : _) → AsksForProgram config.now program → run program first last result }
+        // The writer is left as it was, where no values are written.
+        ensures unwritten { WritesNothing config.now → W.written writer.new ≡ W.written writer.old }
+        ensures unfailed { WritesNothing config.now → W.failed writer.new ≡ W.failed writer.old }
         // Where values are written: for every host.
         ensures evaluated { let first = log_of (H.entries host.old) (E.requests evaluation.old) in
             let last = log_of (H.entries host.new) (E.requests evaluation.new) in
@@ -210,7 +231,10 @@ impl<'src> Run<'src> for Justfile<'src> {
                 host,
                 writer,
             ),
-            Subcommand::Run | Subcommand::Command { .. } => run_words(
+            Subcommand::Command { binary, arguments } => run_command(
+                alloc, config, self, overrides, binary, arguments, evaluation, host,
+            ),
+            Subcommand::Run => run_words(
                 alloc, config, recipes, syntax, self, overrides, evaluation, host, words,
             ),
         }

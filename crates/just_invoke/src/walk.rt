@@ -4,7 +4,7 @@ ghost use Rattle.std.specs.Option.{option_copied};
 ghost use Rattle.just_names.specs.Texts.{texts};
 ghost use Rattle.just_errors.specs.declared.error.Error.TheVariants as error;
 ghost use Rattle.just_errors.specs.declared.invocation_error.InvocationError.TheVariants as fault;
-ghost use Rattle.just_justfile.specs.Closed.{default_recipe, name_of};
+ghost use Rattle.just_justfile.specs.Closed.{default_recipe, resolved_name};
 ghost use Rattle.just_justfile.specs.Walks.{AreModulesOrdered};
 ghost use Rattle.just_justfile.specs.declared.justfile.Justfile.{out-Justfile};
 ghost use Rattle.just_invoke.specs.Cause.{cause_of, IsOfWords};
@@ -35,7 +35,7 @@ fn default_recipe<'run, 'src>(
 
 // Why a recipe that needs arguments is no default.
 fn default_requires<'src>(recipe: &Recipe<'src>, min_arguments: usize) -> Error<'src>
-    ensures { result ≡ error.Invocation (fault.DefaultRecipeRequiresArguments (name_of recipe.now) min_arguments) }
+    ensures { result ≡ error.Invocation (fault.DefaultRecipeRequiresArguments (resolved_name recipe.now) min_arguments) }
 {
     Error::Invocation(InvocationError::DefaultRecipeRequiresArguments {
         recipe: BorrowedText::new(recipe.name.lexeme()),

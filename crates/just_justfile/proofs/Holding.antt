@@ -5,7 +5,7 @@ use Rattle.std.specs.Option.{option_copied}
 use Rattle.std.specs.Borrow.{Bor}
 use Rattle.just_recipe.specs.declared.dependency.Dependency.{Dependency}
 use Rattle.just_recipe.specs.declared.recipe.Recipe.{Recipe}
-use Rattle.just_justfile.specs.Closed.{Held, IsHeld}
+use Rattle.just_justfile.specs.Closed.{HeldRecipes, IsHeld}
 use Rattle.just_recipe.specs.Recipes.{find_number}
 
 number_step : (b : Bool) (x : Recipe Dependency) (rest : Option (Recipe Dependency)) (n : ℕ) (r : Recipe Dependency) → (b ≡ true → x.number.0 ≡ n) →
@@ -13,11 +13,11 @@ number_step : (b : Bool) (x : Recipe Dependency) (rest : Option (Recipe Dependen
 number_step true x rest n r here later e = let same : x ≡ r = (cc) in ap (λ (q : Recipe Dependency). q.number.0) (sym same) ∙ here refl
 number_step false x rest n r here later e = later e
 
-pub number_found : (recipes : Held) (n : ℕ) (r : Recipe Dependency) → find_number recipes n ≡ Some r → r.number.0 ≡ n
+pub number_found : (recipes : HeldRecipes) (n : ℕ) (r : Recipe Dependency) → find_number recipes n ≡ Some r → r.number.0 ≡ n
 number_found [] n r e = (cc)
 number_found (x ∷ xs) n r e = number_step (eqb x.number.0 n) x (find_number xs n) n r (eqb-true x.number.0 n) (number_found xs n r) e
 
 -- a recipe that is found by a number is held
-pub held_found : (recipes : Held) (n : ℕ) (o : Option (Bor (Recipe Dependency))) → option_copied o ≡ find_number recipes n → IfSome o (λ r. IsHeld recipes r.now)
+pub held_found : (recipes : HeldRecipes) (n : ℕ) (o : Option (Bor (Recipe Dependency))) → option_copied o ≡ find_number recipes n → IfSome o (λ r. IsHeld recipes r.now)
 held_found recipes n None e = tt
 held_found recipes n (Some r) e = ap (find_number recipes) (number_found recipes n r.now (sym e)) ∙ sym e

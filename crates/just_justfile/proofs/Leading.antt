@@ -20,7 +20,7 @@ use Rattle.just_justfile.specs.declared.justfile.Justfile.{Justfile, out-Justfil
 use Rattle.just_justfile.specs.declared.justfile.RecipeKey.{RecipeKey}
 use Rattle.just_justfile.specs.declared.resolution.Resolution.{Resolution}
 use Rattle.just_justfile.specs.declared.resolution.Resolution.TheVariants as resolution
-use Rattle.just_justfile.specs.Walks.{Absent, AreOrdered, End, Here, Inside, AreModulesOrdered, Nowhere, beyond, end_from, end_of, inner_along, inner_ordered, module_named, recipe_at, recipe_by, recipe_from}
+use Rattle.just_justfile.specs.Walks.{Absent, AreOrdered, End, Here, Inside, AreModulesOrdered, Nowhere, beyond, end_from, end_of_names, inner_along, inner_ordered, module_named, recipe_under, recipe_by, recipe_from}
 use Rattle.std.proofs.lemmas.List.Elements.{Contains-append_left, Contains-append_right, Contains-push}
 
 found_by : (b : Bool) (x j : Justfile) (rest : Option Justfile) (xs : List Justfile) → cond b (Some x) rest ≡ Some j → (rest ≡ Some j → Contains xs j) → Contains (x ∷ xs) j
@@ -49,7 +49,7 @@ next_along names found = elim found as (λ _. Option Justfile) [
 
 next_end : List Text → Text → List (Text × Text) → Option Justfile → End
 next_end names name absent found = elim found as (λ _. End) [
-  | Some j ↦ beyond name j (end_of (out-Justfile j).absent_modules (out-Justfile j).modules names)
+  | Some j ↦ beyond name j (end_of_names (out-Justfile j).absent_modules (out-Justfile j).modules names)
   | None ↦ if is_some (find name absent) then Absent (name ∷ []) else Nowhere
 ]
 
@@ -82,7 +82,7 @@ absent_here false names e = cc
 some_here : (names : List Text) (name : Text) (absent : List (Text × Text)) (found : Option Justfile) → next_end names name absent found ≡ Here → ⊥
 unfolding next_end
 some_here names name absent None e = absent_here (is_some (find name absent)) (name ∷ []) e
-some_here names name absent (Some j) e = beyond_here name j (end_of (out-Justfile j).absent_modules (out-Justfile j).modules names) e
+some_here names name absent (Some j) e = beyond_here name j (end_of_names (out-Justfile j).absent_modules (out-Justfile j).modules names) e
 
 -- a name leads on
 not_here : (root : Justfile) (name : Text) (names : List Text) → end_from root (name ∷ names) ≡ Here → ⊥
@@ -119,7 +119,7 @@ ordered_next name names absent modules j order ih (Some inner) f g =
     ordered_below name names inner j below (ih inner below) (end_from inner names) refl g
 
 -- the names of the modules in one into which a walk leads rise
-pub end_ordered : (names : List Text) (absent : List (Text × Text)) (modules : List Justfile) (j : Justfile) → AreOrdered modules → end_of absent modules names ≡ Inside j → AreModulesOrdered j
+pub end_ordered : (names : List Text) (absent : List (Text × Text)) (modules : List Justfile) (j : Justfile) → AreOrdered modules → end_of_names absent modules names ≡ Inside j → AreModulesOrdered j
 unfolding next_end
 end_ordered [] absent modules j order e = cc
 end_ordered (name ∷ names) absent modules j order e =
@@ -184,7 +184,7 @@ module _ (recipes : List (Recipe Dependency)) where
   number_same : (a b : Number) → Some (resolution.Resolved a) ≡ Some (resolution.Resolved b) → a ≡ b
   number_same a b e = cc
 
-  held_at : (j : Justfile) (disabled : List (Text × Disabled)) (name : Text) (number : Number) → AreClosed recipes j → recipe_at (out-Justfile j).recipes disabled name ≡ Some (resolution.Resolved number) → IsHeldAs name number
+  held_at : (j : Justfile) (disabled : List (Text × Disabled)) (name : Text) (number : Number) → AreClosed recipes j → recipe_under (out-Justfile j).recipes disabled name ≡ Some (resolution.Resolved number) → IsHeldAs name number
   unfolding looked_up
   held_at j disabled name number closed e = go (find name (out-Justfile j).recipes) refl e
     where

@@ -7,7 +7,7 @@ use Rattle.std.proofs.Math.Seq.{drop-cons}
 use Rattle.just_names.specs.Texts.{Text}
 use Rattle.just_table.specs.Entries.{find}
 use Rattle.just_justfile.specs.declared.justfile.Justfile.{Justfile, out-Justfile}
-use Rattle.just_justfile.specs.Walks.{Absent, End, Here, Inside, Nowhere, beyond, end_of, inner_along, module_named}
+use Rattle.just_justfile.specs.Walks.{Absent, End, Here, Inside, Nowhere, beyond, end_of_names, inner_along, module_named}
 
 abbrev pub here_as : Option Justfile → End
 here_as None = Here
@@ -35,7 +35,7 @@ resumed_beyond walked o name j Nowhere = refl
 -- where a name and more lead, by the module of the name
 stepped : List Text → Option Justfile → Text → List (Text × Text) → End
 stepped names found name absent = elim found as (λ _. End) [
-  | Some j ↦ beyond name j (end_of (out-Justfile j).absent_modules (out-Justfile j).modules names)
+  | Some j ↦ beyond name j (end_of_names (out-Justfile j).absent_modules (out-Justfile j).modules names)
   | None ↦ if is_some (find name absent) then Absent (name ∷ []) else Nowhere
 ]
 
@@ -46,25 +46,25 @@ module _ (names : List Text) (at : ℕ) (more : at < length names) (absent : Lis
   dropped : drop at names ≡ name ∷ drop (at + 1) names
   dropped = drop-cons names at [] more ∙ (λ i. is i ∷ drop (sym (add-one at) i) names)
 
-  here : resumed (take at names) o (end_of absent modules (drop at names)) ≡ resumed (take at names) o (stepped (drop (at + 1) names) (module_named name modules) name absent)
+  here : resumed (take at names) o (end_of_names absent modules (drop at names)) ≡ resumed (take at names) o (stepped (drop (at + 1) names) (module_named name modules) name absent)
   unfolding stepped
-  here = ap (λ xs. resumed (take at names) o (end_of absent modules xs)) dropped
+  here = ap (λ xs. resumed (take at names) o (end_of_names absent modules xs)) dropped
 
   pub entered : (j : Justfile) (modules' : List Justfile) → module_named name modules ≡ Some j → modules' ≡ (out-Justfile j).modules
-      → resumed (take at names) o (end_of absent modules (drop at names)) ≡ resumed (take (at + 1) names) (Some j) (end_of (out-Justfile j).absent_modules modules' (drop (at + 1) names))
+      → resumed (take at names) o (end_of_names absent modules (drop at names)) ≡ resumed (take (at + 1) names) (Some j) (end_of_names (out-Justfile j).absent_modules modules' (drop (at + 1) names))
   unfolding stepped
   entered j modules' e em =
       here ∙ ap (λ f. resumed (take at names) o (stepped (drop (at + 1) names) f name absent)) e
-      ∙ resumed_beyond (take at names) o name j (end_of (out-Justfile j).absent_modules (out-Justfile j).modules (drop (at + 1) names))
-      ∙ (λ i. resumed (sym taken i) (Some j) (end_of (out-Justfile j).absent_modules (sym em i) (drop (at + 1) names)))
+      ∙ resumed_beyond (take at names) o name j (end_of_names (out-Justfile j).absent_modules (out-Justfile j).modules (drop (at + 1) names))
+      ∙ (λ i. resumed (sym taken i) (Some j) (end_of_names (out-Justfile j).absent_modules (sym em i) (drop (at + 1) names)))
 
-  pub missed : module_named name modules ≡ None → is_some (find name absent) ≡ true → resumed (take at names) o (end_of absent modules (drop at names)) ≡ Absent (take (at + 1) names)
+  pub missed : module_named name modules ≡ None → is_some (find name absent) ≡ true → resumed (take at names) o (end_of_names absent modules (drop at names)) ≡ Absent (take (at + 1) names)
   unfolding stepped
   missed e h =
       here ∙ ap (λ f. resumed (take at names) o (stepped (drop (at + 1) names) f name absent)) e
       ∙ ap (λ b. resumed (take at names) o (if b then Absent (name ∷ []) else Nowhere)) h ∙ ap Absent (sym taken)
 
-  pub lost : module_named name modules ≡ None → is_some (find name absent) ≡ false → resumed (take at names) o (end_of absent modules (drop at names)) ≡ Nowhere
+  pub lost : module_named name modules ≡ None → is_some (find name absent) ≡ false → resumed (take at names) o (end_of_names absent modules (drop at names)) ≡ Nowhere
   unfolding stepped
   lost e h =
       here ∙ ap (λ f. resumed (take at names) o (stepped (drop (at + 1) names) f name absent)) e
@@ -81,8 +81,8 @@ all_dropped [] (suc at) h = refl
 all_dropped (x ∷ names) zero h = absurd (omega arith)
 all_dropped (x ∷ names) (suc at) h = all_dropped names at (omega arith)
 
-pub ended : (names : List Text) (at : ℕ) (absent : List (Text × Text)) (modules : List Justfile) (o : Option Justfile) → length names ≤ at → resumed (take at names) o (end_of absent modules (drop at names)) ≡ here_as o
-ended names at absent modules o h = ap (λ xs. resumed (take at names) o (end_of absent modules xs)) (all_dropped names at h)
+pub ended : (names : List Text) (at : ℕ) (absent : List (Text × Text)) (modules : List Justfile) (o : Option Justfile) → length names ≤ at → resumed (take at names) o (end_of_names absent modules (drop at names)) ≡ here_as o
+ended names at absent modules o h = ap (λ xs. resumed (take at names) o (end_of_names absent modules xs)) (all_dropped names at h)
 
 -- the same of modules alone, where names may have led to none
 abbrev pub along_from : Option Justfile → List Text → Option Justfile

@@ -16,15 +16,15 @@ use Rattle.just_justfile.specs.declared.justfile.RecipeKey.{RecipeKey}
 use Rattle.just_recipe.specs.Recipes.{find_number, IsResolved}
 
 -- the recipes that are held
-abbrev pub Held : Type 0
-Held = List (Recipe Dependency)
+abbrev pub HeldRecipes : Type 0
+HeldRecipes = List (Recipe Dependency)
 
 -- the text of a recipe's name
-abbrev pub name_of : Recipe Dependency → Text
-name_of r = lexeme r.name.token
+abbrev pub resolved_name : Recipe Dependency → Text
+resolved_name r = lexeme r.name.token
 
 -- the recipe is held, under its number
-abbrev pub IsHeld : Held → Recipe Dependency → Type 0
+abbrev pub IsHeld : HeldRecipes → Recipe Dependency → Type 0
 IsHeld recipes recipe = find_number recipes recipe.number.0 ≡ Some recipe
 
 -- the recipe of a name: the held one that the module's table names

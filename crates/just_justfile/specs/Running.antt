@@ -25,8 +25,8 @@ use Rattle.just_justfile.specs.Closed.{IsRooted, StandsIn}
 use Rattle.just_justfile.specs.declared.justfile.Justfile.{Justfile, out-Justfile}
 
 -- the variables and the functions of a module
-abbrev pub known_of : Justfile → Known
-known_of j = sources (out-Justfile j).assignments (out-Justfile j).functions
+abbrev pub known_by_tables : Justfile → Known
+known_by_tables j = sources (out-Justfile j).assignments (out-Justfile j).functions
 
 -- the arguments of a dependency, one after another
 abbrev pub arguments_of : Dependency → List DependencyArgument
@@ -36,15 +36,15 @@ arguments_of d = joined d.arguments
 pub record IsReadBy (answers : SyntaxAnswers) (j : Justfile) (r : Recipe Dependency) (name : Text) : Type 0 where
   pub from : Scoped
   pub there : Contains (scopes_of arguments_of answers (out-Justfile j).settings r) from
-  pub reads : Reads (known_of j) from.hidden from.expression name
+  pub reads : Reads (known_by_tables j) from.hidden from.expression name
 
 -- what is needed of a module, from a start: what a variable reads too, unless the analysis saw it as overridden
 abbrev pub NeedsIn : Justfile → (Text → Type 0) → Text → Type 0
-NeedsIn j = Needs (known_of j) (overridden_by (has_number (out-Justfile j).overridden) (known_of j))
+NeedsIn j = Needs (known_by_tables j) (overridden_by (has_number (out-Justfile j).overridden) (known_by_tables j))
 
 -- a recipe has the numbers of exactly the variables of its module that it needs
 abbrev pub HasNeeds : SyntaxAnswers → Justfile → Recipe Dependency → Type 0
-HasNeeds answers j r = (n : Number) → Contains r.variable_references n ↔ IsNumberIn (known_of j) (NeedsIn j (IsReadBy answers j r)) n
+HasNeeds answers j r = (n : Number) → Contains r.variable_references n ↔ IsNumberIn (known_by_tables j) (NeedsIn j (IsReadBy answers j r)) n
 
 -- a line without numbers
 abbrev pub bare_fragment : Fragment → Fragment
@@ -65,10 +65,10 @@ HaveOwnNumbers root = (i j : Justfile) (x y : Text) (a b : Assignment) → Stand
     → find x (out-Justfile i).assignments ≡ Some a → find y (out-Justfile j).assignments ≡ Some b → a.number ≡ b.number
     → ((out-Justfile i).module_path ≡ (out-Justfile j).module_path) × (x ≡ y)
 
--- The root with these recipes can run under a grammar: it is rooted, each module that stands in it has an order in which its variables are evaluated, no two variables have one number, and each recipe has the numbers of what it needs of its module.
+-- The root with these recipes can run under a grammar: it is rooted, each module that stands in it has an order in which its variables are evaluated, no two variables have one number, and each recipe has the numbers of what it needs of its module, where what a line is does not hang on numbers.
 pub record CanRun (answers : SyntaxAnswers) (root : Justfile) (recipes : List (Recipe Dependency)) : Type 0 where
   pub rooted : IsRooted root recipes
-  pub ordered : (j : Justfile) → StandsIn root j → IsEvaluationOrder (known_of j) (texts_of_names (out-Justfile j).evaluation_order)
+  pub ordered : (j : Justfile) → StandsIn root j → IsEvaluationOrder (known_by_tables j) (texts_of_names (out-Justfile j).evaluation_order)
   pub numbers : HaveOwnNumbers root
   pub needs : TellsBareLines answers → (j : Justfile) (r : Recipe Dependency) → StandsIn root j → Contains recipes r → r.module_path ≡ Some (out-Justfile j).module_path → HasNeeds answers j r
 

@@ -69,16 +69,16 @@ beyond name j (Absent names) = Absent (name ∷ names)
 beyond name j Nowhere = Nowhere
 
 -- where names lead from a module with these absent modules and these in it: one that is there goes before an absent one of its name
-abbrev pub end_of : List (Text × Text) → List Justfile → List Text → End
-end_of absent modules [] = Here
-end_of absent modules (name ∷ names) = elim (module_named name modules) as (λ _. End) [
-  | Some j ↦ beyond name j (end_of (out-Justfile j).absent_modules (out-Justfile j).modules names)
+abbrev pub end_of_names : List (Text × Text) → List Justfile → List Text → End
+end_of_names absent modules [] = Here
+end_of_names absent modules (name ∷ names) = elim (module_named name modules) as (λ _. End) [
+  | Some j ↦ beyond name j (end_of_names (out-Justfile j).absent_modules (out-Justfile j).modules names)
   | None ↦ if is_some (find name absent) then Absent (name ∷ []) else Nowhere
 ]
 
 -- where names lead from a module
 abbrev pub end_from : Justfile → List Text → End
-end_from root names = end_of (out-Justfile root).absent_modules (out-Justfile root).modules names
+end_from root names = end_of_names (out-Justfile root).absent_modules (out-Justfile root).modules names
 
 -- the path of names, and the set of one path
 abbrev pub path_along : List Text → Modulepath
@@ -88,22 +88,22 @@ abbrev pub only : Modulepath → BTreeSet Modulepath
 only path = record { keys = path ∷ [] }
 
 -- what a name leads to in a module with these recipes, and with these that are disabled
-abbrev pub recipe_at : List (Text × RecipeKey) → List (Text × Disabled) → Text → Option (Resolution Number)
-recipe_at recipes disabled name = elim (find name recipes) as (λ _. Option (Resolution Number)) [
+abbrev pub recipe_under : List (Text × RecipeKey) → List (Text × Disabled) → Text → Option (Resolution Number)
+recipe_under recipes disabled name = elim (find name recipes) as (λ _. Option (Resolution Number)) [
   | Some key ↦ Some (resolution.Resolved key.number)
   | None ↦ option_map (λ (it : Disabled). resolution.Disabled it.modules) (find name disabled)
 ]
 
 -- the same where the names before it lead
 abbrev pub recipe_by : End → List (Text × RecipeKey) → List (Text × Disabled) → Text → Option (Resolution Number)
-recipe_by Here recipes disabled name = recipe_at recipes disabled name
-recipe_by (Inside j) recipes disabled name = recipe_at (out-Justfile j).recipes (out-Justfile j).disabled_recipes name
+recipe_by Here recipes disabled name = recipe_under recipes disabled name
+recipe_by (Inside j) recipes disabled name = recipe_under (out-Justfile j).recipes (out-Justfile j).disabled_recipes name
 recipe_by (Absent names) recipes disabled name = Some (resolution.Disabled (only (path_along names)))
 recipe_by Nowhere recipes disabled name = None
 
 -- the recipe to which a path leads from a module with these absent modules, disabled recipes, modules in it and recipes
 abbrev pub resolved_recipe : List (Text × Text) → List (Text × Disabled) → List Justfile → List (Text × RecipeKey) → Namepath → Option (Resolution Number)
-resolved_recipe absent disabled modules recipes path = recipe_by (end_of absent modules (map text_of_name path.front)) recipes disabled (text_of_name path.last)
+resolved_recipe absent disabled modules recipes path = recipe_by (end_of_names absent modules (map text_of_name path.front)) recipes disabled (text_of_name path.last)
 
 -- the recipe to which a path leads from a module
 abbrev pub recipe_from : Justfile → Namepath → Option (Resolution Number)
@@ -125,7 +125,7 @@ module_by Nowhere absent modules path = None
 
 -- the module to which a path leads from a module with these absent modules and these in it
 abbrev pub resolved_module : List (Text × Text) → List Justfile → Namepath → Option (Resolution Modulepath)
-resolved_module absent modules path = module_by (end_of absent modules (map text_of_name path.front)) absent modules path
+resolved_module absent modules path = module_by (end_of_names absent modules (map text_of_name path.front)) absent modules path
 
 -- the absent modules where a walk is: in the module into which it led, or where it began
 abbrev pub absent_in : List (Text × Text) → Option Justfile → List (Text × Text)

@@ -1,7 +1,7 @@
 //! Laws: calls that do nothing, whose contracts say what definitions keep.
 ghost use Rattle.std.specs.Prelude.{◌≡◌, List, [], ◌∷◌, Some};
 ghost use Rattle.std.specs.List.{Contains};
-ghost use Rattle.just_justfile.specs.Closed.{AreClosed, HaveInnerNames, Held, IsClosedModule, StandsIn, name_of};
+ghost use Rattle.just_justfile.specs.Closed.{AreClosed, HaveInnerNames, HeldRecipes, IsClosedModule, StandsIn, resolved_name};
 ghost use Rattle.just_justfile.specs.Walks.{Inside, AreModulesOrdered, end_from, inner_along, recipe_from};
 ghost use Rattle.just_justfile.specs.declared.justfile.Justfile.{Justfile, out-Justfile};
 ghost use Rattle.just_justfile.specs.declared.resolution.Resolution.TheVariants.{Resolved};
@@ -14,9 +14,9 @@ ghost use Rattle.just_recipe.specs.Recipes.{find_number};
 /// Where a module and those below it are closed, the module itself is, and so is each of its modules with those below it. Those
 /// in it have names, which rise in byte order in each module.
 pub fn closes_its_modules()
-    ensures itself { (recipes : Held) (root : Justfile) → AreClosed recipes root → IsClosedModule root recipes }
-    ensures names { (recipes : Held) (root : Justfile) → AreClosed recipes root → HaveInnerNames root }
-    ensures ordered { (recipes : Held) (root : Justfile) → AreClosed recipes root → AreModulesOrdered root }
+    ensures itself { (recipes : HeldRecipes) (root : Justfile) → AreClosed recipes root → IsClosedModule root recipes }
+    ensures names { (recipes : HeldRecipes) (root : Justfile) → AreClosed recipes root → HaveInnerNames root }
+    ensures ordered { (recipes : HeldRecipes) (root : Justfile) → AreClosed recipes root → AreModulesOrdered root }
     ensures modules { (recipes : _) (root inner : Justfile) →
         AreClosed recipes root → Contains (out-Justfile root).modules inner → AreClosed recipes inner }
 {}
@@ -32,13 +32,13 @@ pub fn leads_inside()
 /// Where the root and the modules below it are closed, and the root's path has no names, each module that stands in the root is
 /// found from there by its own path: so is the module of an alias.
 pub fn is_found_by_its_path()
-    ensures { (recipes : Held) (root j : Justfile) → AreClosed recipes root → (out-Justfile root).module_path.components ≡ [] → StandsIn root j →
-        inner_along root (out-Justfile j).module_path.components ≡ Some j }
+    ensures { (recipes : HeldRecipes) (root j : Justfile) → AreClosed recipes root →
+        (out-Justfile root).module_path.components ≡ [] → StandsIn root j → inner_along root (out-Justfile j).module_path.components ≡ Some j }
 {}
 
 /// Where a module and those below it are closed, the number to which a path resolves from it is that of a held recipe, whose name
 /// is the last of the path.
 pub fn resolves_to_held()
-    ensures { (recipes : Held) (root : Justfile) (path : Namepath) (number : Number) → AreClosed recipes root →
-        recipe_from root path ≡ Some (Resolved number) → (r : _) × (find_number recipes number.0 ≡ Some r) × (name_of r ≡ text_of_name path.last) }
+    ensures { (recipes : HeldRecipes) (root : Justfile) (path : Namepath) (number : Number) → AreClosed recipes root →
+        recipe_from root path ≡ Some (Resolved number) → (r : _) × (find_number recipes number.0 ≡ Some r) × (resolved_name r ≡ text_of_name path.last) }
 {}

@@ -4,7 +4,7 @@ ghost use Rattle.std.specs.Option.{option_copied};
 ghost use Rattle.just_names.specs.Name.{text_of_name};
 ghost use Rattle.just_table.specs.Entries.{find};
 ghost use Rattle.just_paths.specs.declared.modulepath.Modulepath.{Modulepath};
-ghost use Rattle.just_justfile.specs.Walks.{AreOrdered, AreModulesOrdered, IsReached, absent_in, end_of, inner_along, module_at, module_named, only, path_along, recipe_at, resolved_module, resolved_recipe};
+ghost use Rattle.just_justfile.specs.Walks.{AreOrdered, AreModulesOrdered, IsReached, absent_in, end_of_names, inner_along, module_at, module_named, only, path_along, recipe_under, resolved_module, resolved_recipe};
 
 use crate::disabled::Disabled;
 use crate::justfile::{Justfile, RecipeKey};
@@ -89,7 +89,7 @@ fn walk<'run, 'src>(
     front: &[Name<'src>],
 ) -> Reached<'run, 'src>
     requires { AreOrdered modules.now }
-    ensures { IsReached (map text_of_name front.now) (end_of absent.now modules.now (map text_of_name front.now)) result }
+    ensures { IsReached (map text_of_name front.now) (end_of_names absent.now modules.now (map text_of_name front.now)) result }
 {
     let mut modules = modules;
     let mut inside = None;
@@ -143,7 +143,7 @@ fn find_recipe<'src>(
     disabled: &Table<'src, Disabled<'src>>,
     name: &str,
 ) -> Result<Option<Resolution<Number>>, AllocError>
-    ensures { IfOk result (λ found. found ≡ recipe_at recipes.now disabled.now name.now) }
+    ensures { IfOk result (λ found. found ≡ recipe_under recipes.now disabled.now name.now) }
 {
     if let Some(key) = recipes.get(name) {
         return Ok(Some(Resolution::Resolved(key.number)));

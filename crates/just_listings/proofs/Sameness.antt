@@ -16,7 +16,7 @@ use Rattle.just_names.specs.Texts.{Text}
 use Rattle.just_names.specs.declared.number.Number.{Number}
 use Rattle.just_paths.specs.declared.modulepath.Modulepath.{Modulepath}
 use Rattle.just_recipe_run.specs.Calls.{is_public}
-use Rattle.just_justfile.specs.Closed.{Held}
+use Rattle.just_justfile.specs.Closed.{HeldRecipes}
 use Rattle.just_justfile.specs.declared.justfile.Justfile.{Justfile, out-Justfile}
 use Rattle.just_listings.specs.Below.{ArePublicAliasesBelow, ArePublicRecipesBelow}
 use Rattle.just_listings.specs.Groups.{AreGroupsInOrder, ArePublicGroups, firsts, group_order, itself, shown_groups}
@@ -130,7 +130,7 @@ groups_in_order : (unsorted : Bool) (groups one other : List (Placed Text)) → 
 groups_in_order true groups one other by also = one_by_key itself group_order group_total groups one other by also
 groups_in_order false groups one other by also = one_by_key (placed_item {T = Text}) (slice_cmp nat_cmp) nat_list_cmp_total groups one other by also
 
-pub one_grouping : (unsorted : Bool) (recipes : Held) (j : Justfile) (one other : List Text) → ArePublicGroups unsorted recipes j one → ArePublicGroups unsorted recipes j other → one ≡ other
+pub one_grouping : (unsorted : Bool) (recipes : HeldRecipes) (j : Justfile) (one other : List Text) → ArePublicGroups unsorted recipes j one → ArePublicGroups unsorted recipes j other → one ≡ other
 one_grouping unsorted recipes j one other p q =
     p.first ∙ ap (λ (groups : List (Placed Text)). firsts (map placed_item groups)) (groups_in_order unsorted (shown_groups recipes j) p.ordered q.ordered p.in_order q.in_order) ∙ sym q.first
 
@@ -173,7 +173,7 @@ module _ {X : Type 0} (Has : Justfile → List X → Type 0) (one_has : (j : Jus
       let p = turns j js other q in
       ap (λ xs. xs ++ r) (one_has j h p.0 has p.3) ∙ ap (λ xs. p.0 ++ xs) (one_turn js r p.1 others p.4) ∙ sym p.2
 
-pub one_below : (unsorted : Bool) (recipes : Held) (root : Justfile) (one other : Held) → ArePublicRecipesBelow unsorted recipes root one → ArePublicRecipesBelow unsorted recipes root other → one ≡ other
+pub one_below : (unsorted : Bool) (recipes : HeldRecipes) (root : Justfile) (one other : HeldRecipes) → ArePublicRecipesBelow unsorted recipes root one → ArePublicRecipesBelow unsorted recipes root other → one ≡ other
 one_below unsorted recipes root one other p q =
     let has = ArePublicRecipes unsorted recipes in
     let walks : p.modules ≡ q.modules = one_walk (choice_of unsorted) (root ∷ []) p.modules q.modules p.walked q.walked in

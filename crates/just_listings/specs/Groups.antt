@@ -15,7 +15,7 @@ use Rattle.just_names.specs.Texts.{Text}
 use Rattle.just_recipe.specs.declared.dependency.Dependency.{Dependency}
 use Rattle.just_recipe.specs.declared.recipe.Recipe.{Recipe}
 use Rattle.just_recipe_run.specs.Calls.{is_public}
-use Rattle.just_justfile.specs.Closed.{Held}
+use Rattle.just_justfile.specs.Closed.{HeldRecipes}
 use Rattle.just_justfile.specs.declared.justfile.Justfile.{Justfile, out-Justfile}
 use Rattle.just_listings.specs.Order.{IsByKey, placed_item, place_order}
 use Rattle.just_listings.specs.Public.{is_public_module, module_place, own_recipes, recipe_place}
@@ -52,7 +52,7 @@ abbrev pub module_groups : Justfile → List (Placed Text)
 module_groups j = all_at (module_place j) (group_texts j)
 
 -- the groups of the public recipes of a module, and then those of its public modules
-abbrev pub shown_groups : Held → Justfile → List (Placed Text)
+abbrev pub shown_groups : HeldRecipes → Justfile → List (Placed Text)
 shown_groups recipes j = flat_map recipe_groups (filter is_public (own_recipes recipes j)) ++ flat_map module_groups (filter is_public_module (out-Justfile j).modules)
 
 -- texts at places, by the places, and then by the texts
@@ -73,7 +73,7 @@ firsts [] = []
 firsts (x ∷ xs) = x ∷ filter (λ y. not (bytes_eq x y)) (firsts xs)
 
 -- The groups of what is public in a module, each once, where it stands first in their order.
-pub record ArePublicGroups (unsorted : Bool) (recipes : Held) (j : Justfile) (texts : List Text) : Type 0 where
+pub record ArePublicGroups (unsorted : Bool) (recipes : HeldRecipes) (j : Justfile) (texts : List Text) : Type 0 where
   pub ordered : List (Placed Text)
   pub in_order : AreGroupsInOrder unsorted (shown_groups recipes j) ordered
   pub first : texts ≡ firsts (map placed_item ordered)

@@ -13,7 +13,7 @@ use Rattle.just_recipe.specs.Recipes.{find_number}
 use Rattle.just_recipe.specs.declared.dependency.Dependency.{Dependency}
 use Rattle.just_recipe.specs.declared.recipe.Recipe.{Recipe}
 use Rattle.just_recipe_run.specs.Calls.{is_public, says_private}
-use Rattle.just_justfile.specs.Closed.{Held}
+use Rattle.just_justfile.specs.Closed.{HeldRecipes}
 use Rattle.just_justfile.specs.declared.justfile.Justfile.{Justfile, out-Justfile}
 use Rattle.just_justfile.specs.declared.justfile.RecipeKey.{RecipeKey}
 use Rattle.just_listings.specs.Order.{AreInAskedOrder, place_order}
@@ -37,11 +37,11 @@ abbrev pub ArePublicModules : Bool → Justfile → List Justfile → Type 0
 ArePublicModules unsorted j modules = AreInAskedOrder unsorted module_place place_order (filter is_public_module (out-Justfile j).modules) modules
 
 -- the held recipes that these keys name
-abbrev pub recipes_named : Held → List RecipeKey → Held
+abbrev pub recipes_named : HeldRecipes → List RecipeKey → HeldRecipes
 recipes_named recipes keys = filter_map (λ (key : RecipeKey). find_number recipes key.number.0) keys
 
 -- the recipes of a module, in the order of their names
-abbrev pub own_recipes : Held → Justfile → Held
+abbrev pub own_recipes : HeldRecipes → Justfile → HeldRecipes
 own_recipes recipes j = recipes_named recipes (values_of (out-Justfile j).recipes)
 
 -- where a recipe stands
@@ -49,7 +49,7 @@ abbrev pub recipe_place : Recipe Dependency → Place
 recipe_place r = record { imports = r.import_offsets; offset = r.name.token.offset }
 
 -- the public recipes of a module: in the order of their names, or unsorted by their places, where those of one place stay in that order
-abbrev pub ArePublicRecipes : Bool → Held → Justfile → Held → Type 0
+abbrev pub ArePublicRecipes : Bool → HeldRecipes → Justfile → HeldRecipes → Type 0
 ArePublicRecipes unsorted recipes j found = AreInAskedOrder unsorted recipe_place place_order (filter is_public (own_recipes recipes j)) found
 
 -- the text begins with `_`

@@ -14,7 +14,7 @@ use Rattle.just_recipe.specs.RecipeTexts.{dependency_text, each_after, recipe_te
 use Rattle.just_recipe.specs.Recipes.{find_number}
 use Rattle.just_recipe.specs.declared.dependency.Dependency.{Dependency}
 use Rattle.just_recipe.specs.declared.recipe.Recipe.{Recipe}
-use Rattle.just_justfile.specs.Closed.{Held, name_of}
+use Rattle.just_justfile.specs.Closed.{HeldRecipes, resolved_name}
 use Rattle.just_justfile.specs.Running.{arguments_of}
 use Rattle.just_justfile.specs.declared.justfile.Justfile.{Justfile, out-Justfile}
 use Rattle.just_listings.specs.Public.{own_recipes}
@@ -24,8 +24,8 @@ abbrev pub empty_line : Text
 empty_line = 10 ∷ (10 ∷ [])
 
 -- an alias of a recipe that is held, with the name of that recipe
-abbrev pub alias_shown : Held → Alias Number → Option Text
-alias_shown recipes alias = alias_text (lexeme alias.name.token) (option_map name_of (find_number recipes alias.target.0))
+abbrev pub alias_shown : HeldRecipes → Alias Number → Option Text
+alias_shown recipes alias = alias_text (lexeme alias.name.token) (option_map resolved_name (find_number recipes alias.target.0))
 
 -- a dependency by its path, and a recipe with such dependencies
 abbrev pub dependency_shown : Dependency → Text
@@ -38,14 +38,14 @@ recipe_shown r = recipe_text r (map dependency_shown r.dependencies)
 abbrev pub variables_shown : Justfile → List Text
 variables_shown j = map (λ (a : Assignment). assignment_text a) (values_of (out-Justfile j).assignments)
 
-abbrev pub alias_lines : Held → Justfile → List Text
+abbrev pub alias_lines : HeldRecipes → Justfile → List Text
 alias_lines recipes j = filter_map (alias_shown recipes) (values_of (out-Justfile j).aliases.recipes)
 
-abbrev pub recipes_shown : Held → Justfile → List Text
+abbrev pub recipes_shown : HeldRecipes → Justfile → List Text
 recipes_shown recipes j = map recipe_shown (own_recipes recipes j)
 
 -- The text of a module: its variables, then its aliases, then its recipes, with an empty line between any two.
-abbrev pub shown_text : Held → Justfile → Text
+abbrev pub shown_text : HeldRecipes → Justfile → Text
 shown_text recipes j = joined empty_line (variables_shown j ++ (alias_lines recipes j ++ recipes_shown recipes j))
 
 -- the same texts where others stand before them, and where none does

@@ -20,10 +20,10 @@ use Rattle.just_parts.specs.Items.{Item}
 use Rattle.just_parts.specs.Bare.{bare_item}
 use Rattle.just_ast_items.specs.Edge.{Edge, Imports, Declares, edge_of}
 use Rattle.just_loader.specs.FileCircles.{HasRows, FileLeadsOn, by_edge, by_edges, ChainTo, at_root, and_next, BreaksCircle, leads_back}
-use Rattle.just_loader.specs.Keys.{FileStep, end_of, items_at, steps_by, steps_of}
+use Rattle.just_loader.specs.Keys.{FileStep, end_of_link, items_at, steps_by, steps_of_file}
 use Rattle.just_loader.specs.Placed.{file_at, text_step}
 use Rattle.just_loader.specs.Links.{Link, Nowhere, To, Fault, edge_link}
-use Rattle.just_loader.specs.Reached.{World, IsReachedFile, from_root, from_file, items_of, link, FileLeadsTo}
+use Rattle.just_loader.specs.Reached.{World, IsReachedFile, from_root, from_file, items_of_file, link, FileLeadsTo}
 use Rattle.just_errors.specs.Causes.{LeadsBack}
 use Rattle.just_loader.specs.Scanned.{IsScan, paths_in}
 use Rattle.just_loader.specs.declared.scanned.Scan.{Scan}
@@ -42,15 +42,15 @@ step_of_link w folder path b (Some (Declares name literal optional)) l = (record
 step_of_link w folder path b None l = absurd (no_link b path l)
 
 -- and leads where its step does
-link_of_end : (l : Link) (path : List ℕ) → In path (end_of l) → l ≡ To path
+link_of_end : (l : Link) (path : List ℕ) → In path (end_of_link l) → l ≡ To path
 link_of_end Nowhere path h = absurd h
 link_of_end (To p) path (inl e) = ap To (sym e)
 link_of_end (To p) path (inr h) = absurd h
 link_of_end (Fault c) path h = absurd h
 
 link_of_step : (e : Option Edge) (l : Link) (s : FileStep) → In s (steps_by e l) → l ≡ To s.to
-link_of_step (Some (Imports literal optional)) l s h = let p = from_map _ s (end_of l) h in link_of_end l p.0 p.1 ∙ ap (λ (x : FileStep). To x.to) (sym p.2)
-link_of_step (Some (Declares name literal optional)) l s h = let p = from_map _ s (end_of l) h in link_of_end l p.0 p.1 ∙ ap (λ (x : FileStep). To x.to) (sym p.2)
+link_of_step (Some (Imports literal optional)) l s h = let p = from_map _ s (end_of_link l) h in link_of_end l p.0 p.1 ∙ ap (λ (x : FileStep). To x.to) (sym p.2)
+link_of_step (Some (Declares name literal optional)) l s h = let p = from_map _ s (end_of_link l) h in link_of_end l p.0 p.1 ∙ ap (λ (x : FileStep). To x.to) (sym p.2)
 link_of_step None l s h = absurd h
 
 -- a file that is reached ends a chain
@@ -127,7 +127,7 @@ module _ (w : World) (scan : Scan) (is : IsScan w scan) where
       let i = from_flat (steps_in f) (text_step scan s.0) (items_at w f) (subst (In (text_step scan s.0)) (steps_here w scan is a (inside a p from)) (in_map (text_step scan) s.0 (steps rows a) s.1)) in
       let edge : FileLeadsTo w f (file_at scan s.0.target) = record {
         item = i.0;
-        has = (x.scanned.items, ap (items_of w) (sym x.path_at) ∙ x.scanned.parsed, contained i.0 x.scanned.items (subst (In i.0) (said w scan is a x) i.1));
+        has = (x.scanned.items, ap (items_of_file w) (sym x.path_at) ∙ x.scanned.parsed, contained i.0 x.scanned.items (subst (In i.0) (said w scan is a x) i.1));
         leads = link_of_step (edge_of i.0) (link w (folder_of f) i.0) (text_step scan s.0) i.2;
       } in
       subst (λ f. FileLeadsTo w f q) (file_is a p from) (subst (FileLeadsTo w f) (ap (file_at scan) (sym s.2) ∙ file_is b q to) edge)
@@ -137,8 +137,8 @@ module _ (w : World) (scan : Scan) (is : IsScan w scan) where
   step_of_edge a p q from l =
       let t = step_of_link w (folder_of p) q (w.answers.enabled (bare_item l.item)) (edge_of l.item) l.leads in
       let listed : In l.item (items_at w p) = subst (λ o. In l.item (unwrap_or o [])) (sym l.has.1) (is_in l.item l.has.0 l.has.2) in
-      let there : In t.0 (steps_of w p) = in_flat (steps_in p) t.0 l.item (items_at w p) listed (subst (λ k. In t.0 (steps_by (edge_of l.item) k)) (sym l.leads) t.1) in
-      let s = from_map (text_step scan) t.0 (steps rows a) (subst (In t.0) (sym (steps_here w scan is a (inside a p from) ∙ ap (steps_of w) (file_is a p from))) there) in
+      let there : In t.0 (steps_of_file w p) = in_flat (steps_in p) t.0 l.item (items_at w p) listed (subst (λ k. In t.0 (steps_by (edge_of l.item) k)) (sym l.leads) t.1) in
+      let s = from_map (text_step scan) t.0 (steps rows a) (subst (In t.0) (sym (steps_here w scan is a (inside a p from) ∙ ap (steps_of_file w) (file_is a p from))) there) in
       let step : HasStep rows a s.0.target = contained s.0.target (map (λ (s : Step). s.target) (steps rows a)) (in_map (λ (s : Step). s.target) s.0 (steps rows a) s.1) in
       let to = at w scan is s.0.target (omega (arith, is.count, is.within a s.0.target step)) in
       (s.0.target, to.path_is ∙ ap Some (ap (λ (x : FileStep). x.to) (sym s.2) ∙ t.2), step)

@@ -11,7 +11,7 @@ use Rattle.just_graph.proofs.Preorder.{firsts_in}
 use Rattle.just_graph.proofs.Trails.{steps_to}
 use Rattle.just_graph.proofs.Members.{In, contained, is_in, in_cases, in_map}
 use Rattle.just_names.specs.declared.name.Name.{Name}
-use Rattle.just_loader.specs.Keys.{FileKey, FileKeySteps, FileStep, IsKey, IsLeastFileDepth, root_file_key, steps_of}
+use Rattle.just_loader.specs.Keys.{FileKey, FileKeySteps, FileStep, IsKey, IsLeastFileDepth, root_file_key, steps_of_file}
 use Rattle.just_loader.specs.Loading.{AreUnfolded}
 use Rattle.just_loader.specs.Numbering.{IsNamed}
 use Rattle.just_loader.specs.Placed.{file_at, name_at, text_step}
@@ -97,11 +97,11 @@ module _ (w : World) (scan : Scan) (is : IsScan w scan) where
   pub to_steps : (k : Key) (d : ℕ) → KeySteps S (root_key 0) k d → FileKeySteps w (root_file_key w) (file_key scan k) d
   to_steps k d way =
       subst (λ root. FileKeySteps w root (file_key scan k) d) (sym root_is)
-      (steps_mapped target enters (λ (s : FileStep). s.to) (λ (s : FileStep). s.enters) S (steps_of w) (file_at scan) (name_at scan) (text_step scan) (λ s. refl) (λ s. refl) inside (steps_here w scan is) step_inside way root_inside)
+      (steps_mapped target enters (λ (s : FileStep). s.to) (λ (s : FileStep). s.enters) S (steps_of_file w) (file_at scan) (name_at scan) (text_step scan) (λ s. refl) (λ s. refl) inside (steps_here w scan is) step_inside way root_inside)
 
   pub from_steps : (k : FileKey) (d : ℕ) → FileKeySteps w (root_file_key w) k d → (l : Key) × KeySteps S (root_key 0) l d × (file_key scan l ≡ k)
   from_steps k d way =
-      steps_back target enters (λ (s : FileStep). s.to) (λ (s : FileStep). s.enters) S (steps_of w) (file_at scan) (name_at scan) (text_step scan) (λ s. refl) (λ s. refl) inside (steps_here w scan is) step_inside way (root_key 0) root_is root_inside
+      steps_back target enters (λ (s : FileStep). s.to) (λ (s : FileStep). s.enters) S (steps_of_file w) (file_at scan) (name_at scan) (text_step scan) (λ s. refl) (λ s. refl) inside (steps_here w scan is) step_inside way (root_key 0) root_is root_inside
 
   -- what the root's key leads to are keys of files, and there are no others
   pub to_key : (k : Key) → IsReachedKey S 0 k → IsKey w (file_key scan k)

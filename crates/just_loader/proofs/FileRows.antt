@@ -16,7 +16,7 @@ use Rattle.just_names.specs.Name.{text_of_name}
 use Rattle.just_names.specs.Texts.{Text}
 use Rattle.just_names.specs.declared.name.Name.{Name}
 use Rattle.just_parts.specs.Items.{Item}
-use Rattle.just_loader.specs.Keys.{FileStep, end_of, items_at, steps_by, steps_of}
+use Rattle.just_loader.specs.Keys.{FileStep, end_of_link, items_at, steps_by, steps_of_file}
 use Rattle.just_loader.specs.Links.{Link, Nowhere, To, Fault}
 use Rattle.just_loader.specs.Placed.{file_at, name_at, text_step}
 use Rattle.just_loader.specs.Numbering.{IsFirstAt, IsNamed, texts_of}
@@ -28,12 +28,12 @@ use Rattle.just_loader.proofs.Numberings.{map_get, read_at}
 use Rattle.just_loader.proofs.WholeScans.{one_target, row_at}
 
 -- where links lead
-pub no_end : (paths : List Text) (l : Link) → IsPlaceOf paths l None → end_of l ≡ []
+pub no_end : (paths : List Text) (l : Link) → IsPlaceOf paths l None → end_of_link l ≡ []
 no_end paths Nowhere h = refl
 no_end paths (To p) h = absurd h
 no_end paths (Fault c) h = refl
 
-pub one_end : (paths : List Text) (l : Link) (place : ℕ) → IsPlaceOf paths l (Some place) → end_of l ≡ get_or paths place [] ∷ []
+pub one_end : (paths : List Text) (l : Link) (place : ℕ) → IsPlaceOf paths l (Some place) → end_of_link l ≡ get_or paths place [] ∷ []
 one_end paths Nowhere place h = absurd h
 one_end paths (To p) place h = ap (λ x. x ∷ []) (sym (get_or_from_slice_get paths place p [] h))
 one_end paths (Fault c) place h = absurd h
@@ -59,12 +59,12 @@ module _ (scan : Scan) where
   pub known_entered : (number tag : ℕ) → (name : Name) × IsNamed names number tag name → IsKnown number
   known_entered number tag named = subst (λ t. IsFirstAt texts t number) (known number (text_of_name named.0) named.1.0.0) named.1.0
 
-  no_steps : (e : Option Edge) (l : Link) → end_of l ≡ [] → [] ≡ steps_by e l
+  no_steps : (e : Option Edge) (l : Link) → end_of_link l ≡ [] → [] ≡ steps_by e l
   no_steps (Some (Imports literal optional)) l at = sym (ap (map (λ path. let s : FileStep = record { to = path; offset = literal.token.offset; enters = None; name = None } in s)) at)
   no_steps (Some (Declares name literal optional)) l at = sym (ap (map (λ path. let s : FileStep = record { to = path; offset = 0; enters = Some (text_of_name name); name = Some name } in s)) at)
   no_steps None l at = refl
 
-  edge_steps : (e : Option Edge) (l : Link) (place : ℕ) (row : List Step) → end_of l ≡ file_at scan place ∷ [] → IsStepTo names place e row → map (text_step scan) row ≡ steps_by e l
+  edge_steps : (e : Option Edge) (l : Link) (place : ℕ) (row : List Step) → end_of_link l ≡ file_at scan place ∷ [] → IsStepTo names place e row → map (text_step scan) row ≡ steps_by e l
   edge_steps (Some (Imports literal optional)) l place row at is = ap (map (text_step scan)) is ∙ sym (ap (map (λ path. let s : FileStep = record { to = path; offset = literal.token.offset; enters = None; name = None } in s)) at)
   edge_steps (Some (Declares name literal optional)) l place row at is =
       ap (map (text_step scan)) is.3 ∙ (λ j. let s : FileStep = record { to = file_at scan place; offset = 0; enters = Some (sym (known is.0 (text_of_name name) is.2.0.0) j); name = is.2.1 j } in s ∷ [])
@@ -132,7 +132,7 @@ module _ (w : World) (scan : Scan) (is : IsScan w scan) where
   said a x = ap (λ p. items_at w p) (sym x.path_at) ∙ ap (λ o. unwrap_or o []) x.scanned.parsed
 
   -- the steps from a file
-  pub steps_here : (a : ℕ) → a < length scan.files.items → map (text_step scan) (steps scan.rows.items a) ≡ steps_of w (file_at scan a)
+  pub steps_here : (a : ℕ) → a < length scan.files.items → map (text_step scan) (steps scan.rows.items a) ≡ steps_of_file w (file_at scan a)
   steps_here a h =
       let x = at a h in
       ap (map (text_step scan)) (steps_at scan.rows.items a x.row x.row_is)

@@ -9,7 +9,7 @@ use Rattle.just_parts.specs.Items.{Ast}
 use Rattle.just_parts.specs.Asts.{AstKey, same_ast_key}
 use Rattle.just_parts.proofs.AstKeys.{key_same}
 use Rattle.just_loader.specs.Loaded.{AreToldApart}
-use Rattle.just_loader.specs.Reading.{AreApart}
+use Rattle.just_loader.specs.Reading.{ShareNoNumbers}
 use Rattle.just_loader.specs.Placed.{file_at}
 use Rattle.just_loader.specs.Parsed.{AreKeyed, AreHeld, text_key}
 use Rattle.just_loader.specs.Scanned.{paths_in}
@@ -85,7 +85,7 @@ module _ (scan : Scan) (nodes : List Unfolded) (asts left rest : List Ast) (old 
       held_more scan nodes asts left rest old new here u last keyed held e (ap (slice_get nodes) (sym is) ∙ next_there) path (named ∙ sym same) put
 
 module _ (scan : Scan) (nodes : List Unfolded) (asts : List Ast) (table : AstKey → Option Ast) (held : AreHeld scan nodes asts table) where
-  pub are_told_apart : AreApart asts → AreToldApart table
+  pub are_told_apart : ShareNoNumbers asts → AreToldApart table
   are_told_apart h = record {
     rising = λ k ast e. let r = held.only k ast e in let rises = h.1.rising r.0 ast (map_get Some asts r.0 ast r.3) in (rises.0, h.0, rises.1);
     apart = λ k l a b n e g other x y.

@@ -18,7 +18,7 @@ use Rattle.just_parts.specs.Items.{Ast, Item}
 use Rattle.just_ast_items.specs.declared.item.Item.TheVariants as item
 use Rattle.just_paths.specs.declared.modulepath.Modulepath.{Modulepath}
 use Rattle.just_source.specs.declared.source.Source.{Source}
-use Rattle.just_loader.specs.Keys.{FileKey, FileNode, FileStep, IsKey, IsLeastFileDepth, ast_key, end_of, items_at, key_of_ast, root_file_key, steps_by, steps_of}
+use Rattle.just_loader.specs.Keys.{FileKey, FileNode, FileStep, IsKey, IsLeastFileDepth, ast_key, end_of_link, items_at, key_of_ast, root_file_key, steps_by, steps_of_file}
 use Rattle.just_loader.specs.Links.{Link, Nowhere, To, Fault}
 use Rattle.just_loader.specs.Loaded.{IsAstOf, IsLoaded, path_of_link, with_path}
 use Rattle.just_loader.specs.Reached.{World, items_said, link}
@@ -41,7 +41,7 @@ located_all : (w : World) (folder : Text) (source : Source) (is : List Item) →
 located_all w folder source [] all = refl
 located_all w folder source (i ∷ is) all = λ j. located_one w folder source i (all i (inl refl)) j ∷ located_all w folder source is (λ x h. all x (inr h)) j
 
-end_is : (l : Link) (path : Text) → path_of_link l ≡ Some path → end_of l ≡ path ∷ []
+end_is : (l : Link) (path : Text) → path_of_link l ≡ Some path → end_of_link l ≡ path ∷ []
 end_is Nowhere path e = absurd (none_some e)
 end_is (To p) path e = ap (λ x. x ∷ []) (some_same e)
 end_is (Fault c) path e = absurd (none_some e)
@@ -136,9 +136,9 @@ module _ (w : World) (asts : AstKey → Option Ast) (loaded : List Text) (is : I
       let j = from_map (with_path w (folder_of f)) i h.of.parsed.items (subst (In i) h.of.items (is_in i ast.items c)) in
       let l : Led w (folder_of f) own j.0 path = led w (folder_of f) own j.0 path (ap absolute_of (sym j.2) ∙ there) in
       let item_in : In (bare_item j.0) (items_at w f) = subst (In (bare_item j.0)) (sym bare) (in_map bare_item j.0 h.of.parsed.items j.1) in
-      let step_in : In l.step (steps_of w f) = in_flat (λ x. steps_by (edge_of x) (link w (folder_of f) x)) l.step (bare_item j.0) (items_at w f) item_in l.has in
+      let step_in : In l.step (steps_of_file w f) = in_flat (λ x. steps_by (edge_of x) (link w (folder_of f) x)) l.step (bare_item j.0) (items_at w f) item_in l.has in
       let child : FileKey = key_child_of (λ (s : FileStep). s.to) (λ (s : FileStep). s.enters) (key_of h.node) l.step in
-      let next = key_held child (suc h.of.source.file_depth, steps_more h.of.came.depth.0 l.step (contained l.step (steps_of w f) step_in)) in
+      let next = key_held child (suc h.of.source.file_depth, steps_more h.of.came.depth.0 l.step (contained l.step (steps_of_file w f) step_in)) in
       let from : (path_led k.0 i, path) ≡ (path_led own (with_path w (folder_of f) j.0), path) = λ x. (path_led ((sym h.key_is x).0) (j.2 x), path) in
       let to : (path_led own (with_path w (folder_of f) j.0), path) ≡ ast_key child = λ x. (sym l.enters x, sym l.leads x) in
       (next.0, ap asts (from ∙ to) ∙ next.1)

@@ -17,13 +17,13 @@ use Rattle.just_graph.proofs.Members.{In, contained, is_in, in_map, from_map}
 use Rattle.just_parts.specs.Asts.{AstKey}
 use Rattle.just_names.specs.Texts.{Text}
 use Rattle.just_parts.specs.Items.{Ast}
-use Rattle.just_loader.specs.Keys.{AreFirstFiles, FileNode, FileStep, ast_key, steps_of}
+use Rattle.just_loader.specs.Keys.{AreFirstFiles, FileNode, FileStep, ast_key, steps_of_file}
 use Rattle.just_loader.specs.Loaded.{IsAstOf, IsLoaded, at_first}
 use Rattle.just_loader.specs.Placed.{at_first_places, file_at, file_node, key_at, name_at, text_step}
 use Rattle.just_loader.specs.Loading.{AreParsed, KeepsLaws}
 use Rattle.just_loader.specs.Parsed.{AreHeld, relative_at}
 use Rattle.just_loader.specs.Reached.{World, relative_to_root}
-use Rattle.just_loader.specs.Reading.{AreApart}
+use Rattle.just_loader.specs.Reading.{ShareNoNumbers}
 use Rattle.just_loader.specs.Scanned.{IsScan}
 use Rattle.just_loader.specs.declared.scanned.Scan.{Scan}
 use Rattle.just_loader.proofs.FileKeys.{file_key, from_key, node_reached, root_at, root_inside, same_keys, step_inside}
@@ -74,16 +74,16 @@ module _ (w : World) (scan : Scan) (is : IsScan w scan) where
   are_first : (ns : List Node) → AreFirst (steps scan.rows.items) 0 ns → AreFirstFiles w (map (file_node scan) ns)
   are_first ns f =
       let unfolds = unfolds_mapped (λ (s : Step). s.target) (λ (s : Step). s.offset) (λ (s : Step). s.enters) (λ (s : FileStep). s.to) (λ (s : FileStep). s.offset) (λ (s : FileStep). s.enters)
-      (steps scan.rows.items) (steps_of w) (file_at scan) (name_at scan) (text_step scan) (λ s. refl) (λ s. refl) (λ s. refl) (λ a. a < length scan.files.items) (steps_here w scan is) (step_inside w scan is) f.1
+      (steps scan.rows.items) (steps_of_file w) (file_at scan) (name_at scan) (text_step scan) (λ s. refl) (λ s. refl) (λ s. refl) (λ a. a < length scan.files.items) (steps_here w scan is) (step_inside w scan is) f.1
       (λ n i. elim i [ inl e ↦ subst (λ (x : Node). x.node < length scan.files.items) (sym e) (root_inside w scan is) | inr z ↦ absurd z ]) in (
         map (file_node scan) f.0,
-        subst (λ n. UnfoldsOf (λ (s : FileStep). s.to) (λ (s : FileStep). s.offset) (λ (s : FileStep). s.enters) (steps_of w) (n ∷ []) (map (file_node scan) f.0)) root_mapped unfolds,
+        subst (λ n. UnfoldsOf (λ (s : FileStep). s.to) (λ (s : FileStep). s.offset) (λ (s : FileStep). s.enters) (steps_of_file w) (n ∷ []) (map (file_node scan) f.0)) root_mapped unfolds,
         firsts_mapped (file_node scan) Is (λ a b e. ap (file_key scan) e) nodes_apart f.2 (λ x i. absurd i) (λ n i. node_reached (steps scan.rows.items) f.0 f.1 n i),
       )
 
 -- what is loaded, from what is scanned, unfolded, parsed and held
 pub is_loaded : (w : World) (scan : Scan) → IsScan w scan → (us : List Unfolded) (whole : IsWhole scan.rows.items us) (asts : List Ast) → AreParsed w scan whole.first.0 asts
-    → AreApart asts → All (KeepsLaws w.answers) asts
+    → ShareNoNumbers asts → All (KeepsLaws w.answers) asts
     → (table : AstKey → Option Ast) → AreHeld scan us asts table → (loaded : List Text) → loaded ≡ map (relative_at scan) (at_first_places (places_of us)) → IsLoaded w table loaded
 is_loaded w scan is us whole asts parsed apart laws table held loaded paths =
     let ns = whole.first.0 in

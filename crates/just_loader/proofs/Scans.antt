@@ -13,7 +13,7 @@ use Rattle.just_parts.specs.Items.{Item}
 use Rattle.just_errors.specs.declared.error.Error.{Error}
 use Rattle.just_errors.specs.declared.error.Error.TheVariants as error
 use Rattle.just_loader.specs.Links.{Link, Nowhere, To, Fault, edge_link, link_in}
-use Rattle.just_loader.specs.Reached.{World, relative_to_root, items_of, items_said, link, HasItem, FileLeadsTo, BreaksAt, no_grammar, no_number, in_item}
+use Rattle.just_loader.specs.Reached.{World, relative_to_root, items_of_file, items_said, link, HasItem, FileLeadsTo, BreaksAt, no_grammar, no_number, in_item}
 use Rattle.just_errors.specs.Causes.{Cause, Broken, Reports}
 use Rattle.just_loader.specs.Scanned.{ArePlacesOf, IsStepTo, IsStepOf, AreSteps, IsScanned}
 use Rattle.just_loader.specs.Sources.{Files, text_at}
@@ -73,7 +73,7 @@ module _ (w : World) (f : SourceFile) (file : find f.path w.files ≡ Some f) wh
   refused_err relative text (Err e) p t h = refused_at relative text e p t h
 
   module _ (items : List Item) (parsed : items_said (w.answers.parsed (relative_to_root w f.path) f.text) ≡ Some (map bare_item items)) where
-    said : items_of w f.path ≡ Some (map bare_item items)
+    said : items_of_file w f.path ≡ Some (map bare_item items)
     said = ap (λ t. items_said (option_and_then (w.answers.parsed (relative_to_root w f.path)) t)) text_there ∙ parsed
 
     abbrev links : List Link
@@ -115,7 +115,7 @@ module _ (w : World) (f : SourceFile) (file : find f.path w.files ≡ Some f) wh
       text = ap (text_at w.files) path ∙ text_there ∙ ap Some (sym text);
       relative = relative ∙ ap (relative_to_root w) (sym path);
       items = map bare_item items;
-      parsed = ap (items_of w) path ∙ said;
+      parsed = ap (items_of_file w) path ∙ said;
       targets = subst (λ p. ArePlacesOf paths (map (link w (folder_of p)) (map bare_item items)) s.targets.items) (sym path) (subst (λ ls. ArePlacesOf paths ls s.targets.items) (sym bare) targets);
       steps = steps_bare names items s.targets.items row steps;
     }

@@ -14,7 +14,7 @@ use Rattle.just_names.specs.Token.{Place}
 use Rattle.just_names.specs.declared.name.Name.{Name}
 use Rattle.just_parts.specs.Items.{Item}
 use Rattle.just_ast_items.specs.Edge.{Edge, Imports, Declares, edge_of}
-use Rattle.just_loader.specs.Links.{Link, Nowhere, To, expanded, given, unless, import_link, choice, module_link, edge_link, link_in}
+use Rattle.just_loader.specs.Links.{Link, Nowhere, To, expanded, given_path, unless, import_link, choice, module_link, edge_link, link_in}
 use Rattle.just_loader.specs.ModuleFile.{candidates, file_at, files_in, is_module_file, or_else}
 use Rattle.just_errors.specs.Causes.{Cause, NoImport, NoModule}
 use Rattle.just_loader.specs.Sources.{Files}
@@ -54,7 +54,7 @@ module _ (files : Files) where
   choice_there folder name optional (p ∷ []) path all e = let same : p ≡ path = cc in subst IsThere same (All-head IsThere p [] all)
   choice_there folder name optional (p ∷ q ∷ more) path all e = cc
 
-  module_there : (folder : List ℕ) (name : Name) (optional : Bool) (given : Option (Option (List ℕ))) (path : List ℕ) → module_link files folder name optional given ≡ To path → IsThere path
+  module_there : (folder : List ℕ) (name : Name) (optional : Bool) (given_path : Option (Option (List ℕ))) (path : List ℕ) → module_link files folder name optional given_path ≡ To path → IsThere path
   module_there folder name optional None path e = cc
   module_there folder name optional (Some p) path e = choice_there folder name optional (candidates files folder (text_of_name name) p) path (candidates_there folder (text_of_name name) p) e
 
@@ -68,7 +68,7 @@ module _ (files : Files) where
 
   edge_there : (home : Option (List ℕ)) (folder : List ℕ) (e : Option Edge) (path : List ℕ) → edge_link files home folder e ≡ To path → IsThere path
   edge_there home folder (Some (Imports literal optional)) path e = import_there folder literal.token optional (expanded home literal.cooked) path e
-  edge_there home folder (Some (Declares name literal optional)) path e = module_there folder name optional (given home literal) path e
+  edge_there home folder (Some (Declares name literal optional)) path e = module_there folder name optional (given_path home literal) path e
   edge_there home folder None path e = cc
 
   if_there : (b : Bool) (link : Link) (path : List ℕ) → (link ≡ To path → IsThere path) → (if b then link else Nowhere) ≡ To path → IsThere path

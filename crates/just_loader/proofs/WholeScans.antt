@@ -22,7 +22,7 @@ use Rattle.just_parts.specs.Items.{Item}
 use Rattle.just_ast_items.specs.Edge.{Edge, Imports, Declares, edge_of}
 use Rattle.just_loader.specs.Links.{Link, Nowhere, To, Fault}
 use Rattle.just_loader.specs.Numbering.{AreFound, paths_of}
-use Rattle.just_loader.specs.Reached.{World, IsReachedFile, from_root, from_file, items_of, link, FileLeadsTo, BreaksAt, BreaksInScan}
+use Rattle.just_loader.specs.Reached.{World, IsReachedFile, from_root, from_file, items_of_file, link, FileLeadsTo, BreaksAt, BreaksInScan}
 use Rattle.just_errors.specs.Causes.{Cause}
 use Rattle.just_loader.specs.Scanned.{IsPlaceOf, ArePlacesOf, IsStepTo, IsStepOf, AreSteps, IsScanned, AreScanned, IsScan, paths_in, Grows, Extends}
 use Rattle.just_loader.specs.Sources.{Files}
@@ -189,7 +189,7 @@ module _ (w : World) (paths : List (List ℕ)) (names : List Name) (files : List
   closed : (p q : List ℕ) → Contains paths p → FileLeadsTo w p q → Contains paths q
   closed p q c l =
       let s = scanned_at p c in let file = s.1 in let is = s.5 in
-      let same : l.has.0 ≡ is.items = (let e = sym l.has.1 ∙ ap (items_of w) (sym s.3) ∙ is.parsed in cc) in
+      let same : l.has.0 ≡ is.items = (let e = sym l.has.1 ∙ ap (items_of_file w) (sym s.3) ∙ is.parsed in cc) in
       let at = placed is.items l.item (subst (λ xs. Contains xs l.item) same l.has.2) in
       let to : slice_get (map (link w (folder_of file.path)) is.items) at.0 ≡ Some (To q) =
       map_get (link w (folder_of file.path)) is.items at.0 l.item at.1 ∙ ap Some (ap (λ x. link w (folder_of x) l.item) s.3 ∙ l.leads) in

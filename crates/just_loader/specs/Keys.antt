@@ -14,18 +14,18 @@ use Rattle.just_parts.specs.Items.{Item}
 use Rattle.just_errors.specs.Causes.{Cause, Keeps, NoFile, NoNumber}
 use Rattle.just_loader.specs.FileCircles.{BreaksCircle}
 use Rattle.just_loader.specs.Links.{Link, Nowhere, To, Fault}
-use Rattle.just_loader.specs.Reached.{World, items_of, link, relative_to_root, BreaksInScan}
+use Rattle.just_loader.specs.Reached.{World, items_of_file, link, relative_to_root, BreaksInScan}
 use Rattle.just_loader.specs.Sources.{text_at}
 
 -- the items of the file at a path
 abbrev pub items_at : World → Text → List Item
-items_at w f = unwrap_or (items_of w f) []
+items_at w f = unwrap_or (items_of_file w f) []
 
 -- where a link leads, if it does
-abbrev pub end_of : Link → List Text
-end_of Nowhere = []
-end_of (To path) = path ∷ []
-end_of (Fault cause) = []
+abbrev pub end_of_link : Link → List Text
+end_of_link Nowhere = []
+end_of_link (To path) = path ∷ []
+end_of_link (Fault cause) = []
 
 -- A step from a file: where it leads, the offset of the quoted text of an import, and of the module that it enters the text of its name and the name of
 -- the item that declares it; an import enters none.
@@ -37,14 +37,14 @@ pub record FileStep : Type 0 where
 
 -- the step of an item, by where it leads
 abbrev pub steps_by : Option Edge → Link → List FileStep
-steps_by (Some (Imports literal optional)) l = map (λ path. record { to = path; offset = literal.token.offset; enters = None; name = None }) (end_of l)
+steps_by (Some (Imports literal optional)) l = map (λ path. record { to = path; offset = literal.token.offset; enters = None; name = None }) (end_of_link l)
 steps_by (Some (Declares name literal optional)) l =
-    map (λ path. record { to = path; offset = 0; enters = Some (text_of_name name); name = Some name }) (end_of l)
+    map (λ path. record { to = path; offset = 0; enters = Some (text_of_name name); name = Some name }) (end_of_link l)
 steps_by None l = []
 
 -- the steps of the items of a file, in order
-abbrev pub steps_of : World → Text → List FileStep
-steps_of w f = flat_map (λ i. steps_by (edge_of i) (link w (folder_of f) i)) (items_at w f)
+abbrev pub steps_of_file : World → Text → List FileStep
+steps_of_file w f = flat_map (λ i. steps_by (edge_of i) (link w (folder_of f) i)) (items_at w f)
 
 -- the path of a module, and a file of it
 abbrev pub FileKey : Type 0
@@ -56,7 +56,7 @@ root_file_key w = record { path = []; node = w.root }
 
 -- that many steps lead from one key to another: what a file imports is of its module, and the file of a declared module of that
 abbrev pub FileKeySteps : World → FileKey → FileKey → ℕ → Type 0
-FileKeySteps w = KeyStepsOf (λ (s : FileStep). s.to) (λ (s : FileStep). s.enters) (steps_of w)
+FileKeySteps w = KeyStepsOf (λ (s : FileStep). s.to) (λ (s : FileStep). s.enters) (steps_of_file w)
 
 -- steps lead to the key from the root's
 abbrev pub IsKey : World → FileKey → Type 0
@@ -72,7 +72,7 @@ FileNode = NodeOf Text Text FileStep
 
 -- the first node of each key in the preorder of the root file's unfolding
 abbrev pub AreFirstFiles : World → List FileNode → Type 0
-AreFirstFiles w = AreFirstOf (λ (s : FileStep). s.to) (λ (s : FileStep). s.offset) (λ (s : FileStep). s.enters) (steps_of w) w.root
+AreFirstFiles w = AreFirstOf (λ (s : FileStep). s.to) (λ (s : FileStep). s.offset) (λ (s : FileStep). s.enters) (steps_of_file w) w.root
 
 -- the key under which what a file says is held, and the key of the file
 abbrev pub ast_key : FileKey → AstKey

@@ -43,9 +43,9 @@ abbrev pub expanded : Option Text → Text → Option Text
 expanded home text = or_same home text (after (codes "~/") text)
 
 -- the path that may be given for a module, expanded; none where that is a fault
-abbrev pub given : Option Text → Option StringLiteral → Option (Option Text)
-given home None = Some None
-given home (Some literal) = option_map Some (expanded home literal.cooked)
+abbrev pub given_path : Option Text → Option StringLiteral → Option (Option Text)
+given_path home None = Some None
+given_path home (Some literal) = option_map Some (expanded home literal.cooked)
 
 -- an optional item leads nowhere, another is at fault
 abbrev pub unless : Bool → Cause → Link
@@ -71,7 +71,7 @@ module_link files folder name optional (Some path) = choice folder name optional
 abbrev pub edge_link : Files → Option Text → Text → Option Edge → Link
 edge_link files home folder None = Nowhere
 edge_link files home folder (Some (Imports literal optional)) = import_link files folder literal.token optional (expanded home literal.cooked)
-edge_link files home folder (Some (Declares name literal optional)) = module_link files folder name optional (given home literal)
+edge_link files home folder (Some (Declares name literal optional)) = module_link files folder name optional (given_path home literal)
 
 -- the same of an item, where it is enabled
 abbrev pub link_in : Files → Option Text → (Item → Bool) → Text → Item → Link

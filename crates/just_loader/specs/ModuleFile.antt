@@ -40,7 +40,7 @@ is_named_so (Some name) = is_module_name name
 abbrev pub is_module_file : Text → Text → Bool
 is_module_file folder path = is_named_so (after (slashed folder) path)
 
--- the paths that are there of those, in byte order
+-- the files of a folder that are named as the file of a module is, in byte order
 abbrev pub files_in : Files → Text → List Text
 files_in files folder = filter (is_module_file folder) (keys_of files)
 

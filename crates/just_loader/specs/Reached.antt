@@ -37,8 +37,8 @@ abbrev pub items_said : Option Ast → Option (List Item)
 items_said = option_map (λ (ast : Ast). ast.items)
 
 -- the items of the file at a path
-abbrev pub items_of : World → Text → Option (List Item)
-items_of w path = items_said (ast_of w path)
+abbrev pub items_of_file : World → Text → Option (List Item)
+items_of_file w path = items_said (ast_of w path)
 
 -- what an item leads to from its file's folder
 abbrev pub link : World → Text → Item → Link
@@ -46,7 +46,7 @@ link w folder item = link_in w.files w.home w.answers.enabled folder item
 
 -- the file at f has the item
 abbrev pub HasItem : World → Text → Item → Type 0
-HasItem w f item = (items : List Item) × (items_of w f ≡ Some items) × Contains items item
+HasItem w f item = (items : List Item) × (items_of_file w f ≡ Some items) × Contains items item
 
 -- an item of f leads to g
 pub record FileLeadsTo (w : World) (f g : Text) : Type 0 where

@@ -59,8 +59,8 @@ pub record AreApartBelow (asts : List (Option Ast)) (high : ℕ) : Type 0 where
   pub apart : (i j : ℕ) (a b : Ast) (n : ℕ) → slice_get asts i ≡ Some (Some a) → slice_get asts j ≡ Some (Some b) → Contains (numbers a.items) n → Contains (numbers b.items) n → i ≡ j
 
 -- the same of texts of which none is taken
-abbrev pub AreApart : List Ast → Type 0
-AreApart asts = (high : ℕ) × AreApartBelow (map Some asts) high
+abbrev pub ShareNoNumbers : List Ast → Type 0
+ShareNoNumbers asts = (high : ℕ) × AreApartBelow (map Some asts) high
 
 -- what stands at a place is what the file there says
 abbrev pub AreReadOf : SyntaxAnswers → List ScannedFile → List (Option Ast) → Type 0

@@ -14,7 +14,7 @@ use Rattle.just_names.specs.Texts.{Text}
 use Rattle.just_parts.specs.Items.{Item}
 use Rattle.just_loader.specs.Links.{Link, Nowhere, To, Fault}
 use Rattle.just_loader.specs.Numbering.{IsNamed, paths_found}
-use Rattle.just_loader.specs.Reached.{World, IsReachedFile, items_of, link, relative_to_root}
+use Rattle.just_loader.specs.Reached.{World, IsReachedFile, items_of_file, link, relative_to_root}
 use Rattle.just_loader.specs.Sources.{text_at}
 use Rattle.just_loader.specs.declared.found.Found.{Found}
 use Rattle.just_loader.specs.declared.found.NameNumbers.{NameNumbers}
@@ -69,7 +69,7 @@ pub record IsScanned (w : World) (paths : List Text) (names : List Name) (file :
   pub text : text_at w.files file.path ≡ Some file.text
   pub relative : file.relative ≡ relative_to_root w file.path
   pub items : List Item
-  pub parsed : items_of w file.path ≡ Some items
+  pub parsed : items_of_file w file.path ≡ Some items
   pub targets : ArePlacesOf paths (map (link w (folder_of file.path)) items) file.targets.items
   pub steps : AreSteps names items file.targets.items row
 

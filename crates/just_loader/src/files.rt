@@ -15,7 +15,7 @@ ghost use Rattle.just_loader.specs.Placed.{at_first_places, file_at};
 ghost use Rattle.just_loader.specs.Loading.{AreNodes, AreParsedBy, AreSources, AreUnfolded, CameInAt, CameInSoFar, ComesNext, HavePaths, InWorlds, IsSaid, IsScanBy, KeepsLaws, Stops, StopsInFile, spent_by};
 ghost use Rattle.just_loader.specs.Parsed.{AreHeld, AreKeyed, relative_at};
 ghost use Rattle.just_loader.specs.Reached.{World, link, world_of};
-ghost use Rattle.just_loader.specs.Reading.{AreApart, AreRead, AreReadOf, TakesTextOf};
+ghost use Rattle.just_loader.specs.Reading.{ShareNoNumbers, AreRead, AreReadOf, TakesTextOf};
 ghost use Rattle.just_loader.specs.Scanned.{ArePlacesOf, EntersName, IsScan, paths_in};
 
 use crate::circles::check_circles;
@@ -198,7 +198,7 @@ fn read_all<'src, S: Syntax>(
     requires sources { (ns : List Node) → AreNodes scan.now nodes.now ns → AreSources scan.now ns sources.now }
     requires read { AreRead (S.answers syntax.now) scan.now.files.items texts }
     ensures parsed { IfOk result (λ asts. AreParsedBy (S.answers syntax.now) scan.now nodes.now asts.items) }
-    ensures numbers { IfOk result (λ asts. AreApart asts.items) }
+    ensures numbers { IfOk result (λ asts. ShareNoNumbers asts.items) }
     ensures laws { IfOk result (λ asts. All (KeepsLaws (S.answers syntax.now)) asts.items) }
     ensures fits { OnOk result (InWorlds scan.now (S.answers syntax.now) (λ w. spent_by w scan.now nodes.now ≤ 2 ^ 64)) }
     ensures stopped { IfErr result (λ e. InWorlds scan.now (S.answers syntax.now) (λ w. Stops w scan.now nodes.now texts.entry.numerator e)) }
@@ -225,7 +225,7 @@ fn parse_all<'src, S: Syntax>(
     requires nodes { AreUnfolded scan.now nodes.now }
     requires read { AreRead (S.answers syntax.now) scan.now.files.items texts }
     ensures parsed { IfOk result (λ asts. AreParsedBy (S.answers syntax.now) scan.now nodes.now asts.items) }
-    ensures numbers { IfOk result (λ asts. AreApart asts.items) }
+    ensures numbers { IfOk result (λ asts. ShareNoNumbers asts.items) }
     ensures laws { IfOk result (λ asts. All (KeepsLaws (S.answers syntax.now)) asts.items) }
     ensures fits { OnOk result (InWorlds scan.now (S.answers syntax.now) (λ w. spent_by w scan.now nodes.now ≤ 2 ^ 64)) }
     ensures stopped { IfErr result (λ e. InWorlds scan.now (S.answers syntax.now) (λ w. Stops w scan.now nodes.now 0 e)) }

@@ -4,7 +4,7 @@ ghost use Rattle.std.specs.Prelude.{◌≡◌, None, Some, is_some, map, option_
 ghost use Rattle.just_ast_items.specs.Edge.{Imports};
 ghost use Rattle.just_table.specs.Entries.{find};
 ghost use Rattle.just_paths.specs.Join.{clean_join};
-ghost use Rattle.just_loader.specs.Links.{Nowhere, To, Fault, without_slashes, expanded, given, module_link, edge_link, link_by, linked};
+ghost use Rattle.just_loader.specs.Links.{Nowhere, To, Fault, without_slashes, expanded, given_path, module_link, edge_link, link_by, linked};
 ghost use Rattle.just_errors.specs.Causes.{NoHome, Reports};
 
 use crate::module_file::{after, find_module_file};
@@ -73,8 +73,8 @@ fn expand_given<'src>(
     home: &Option<Text>,
     literal: &Option<StringLiteral<'src>>,
 ) -> Result<Option<Text>, Error<'src>>
-    ensures path { IfOk result (λ path. given home.now literal.now ≡ Some path) }
-    ensures error { IfErr result (Reports (λ c. (given home.now literal.now ≡ None) × (c ≡ NoHome))) }
+    ensures path { IfOk result (λ path. given_path home.now literal.now ≡ Some path) }
+    ensures error { IfErr result (Reports (λ c. (given_path home.now literal.now ≡ None) × (c ≡ NoHome))) }
 {
     match literal {
         Some(literal) => Ok(Some(expand(alloc, home, literal.cooked.as_str())?)),
@@ -92,8 +92,8 @@ fn link_module<'src>(
     literal: &Option<StringLiteral<'src>>,
     optional: bool,
 ) -> Result<Option<Text>, Error<'src>>
-    ensures path { IfOk result (λ path. module_link sources.now folder.now name.now optional (given config.now.home literal.now) ≡ linked path) }
-    ensures error { IfErr result (Reports (λ c. module_link sources.now folder.now name.now optional (given config.now.home literal.now) ≡ Fault c)) }
+    ensures path { IfOk result (λ path. module_link sources.now folder.now name.now optional (given_path config.now.home literal.now) ≡ linked path) }
+    ensures error { IfErr result (Reports (λ c. module_link sources.now folder.now name.now optional (given_path config.now.home literal.now) ≡ Fault c)) }
 {
     let given = expand_given(alloc, &config.home, literal)?;
     let path = given.as_ref().map(|path| path.as_str());

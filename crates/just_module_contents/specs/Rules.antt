@@ -138,7 +138,7 @@ pub data WhereEvaluated {A : Type 0} (Is : A → Type 0) (broken : A → Cause �
   under : {a : A} {c : Cause} → Is a → broken a c → WhereEvaluated Is broken c
 
 -- A circle of names: it begins and ends with one name, each recipe depends on the next, and `recipe` is the last that does.
-pub record IsCircleOf (recipes : List (Recipe UnresolvedDependency)) (recipe : List ℕ) (circle : List (List ℕ)) : Type 0 where
+pub record IsRecipeCircleOf (recipes : List (Recipe UnresolvedDependency)) (recipe : List ℕ) (circle : List (List ℕ)) : Type 0 where
   pub steps : 1 < length circle
   pub closed : get_or circle 0 [] ≡ get_or circle (length circle - 1) []
   pub walk : (k : ℕ) → k + 1 < length circle → DependsOnRecipe recipes (get_or circle k []) (get_or circle (k + 1) [])
@@ -176,7 +176,7 @@ module _ (Leads : Namepath → Type 0) (Stands : Text → Type 0) (Takes : Namep
   pub data Dependencies (lists : Bool) (recipes : List (Recipe UnresolvedDependency)) : Cause → Type 0 where
     unknown_dependency : {recipe : List ℕ} {unknown : Namepath} → DependsBy recipes recipe unknown → (Leads unknown → ⊥)
         → Dependencies lists recipes (Broken unknown.last.token (kind.UnknownDependency recipe unknown))
-    circular : {recipe : List ℕ} {circle : List (List ℕ)} {path : Namepath} → IsCircleOf recipes recipe circle → IsDependencyOn recipes recipe (get_or circle (length circle - 1) []) path
+    circular : {recipe : List ℕ} {circle : List (List ℕ)} {path : Namepath} → IsRecipeCircleOf recipes recipe circle → IsDependencyOn recipes recipe (get_or circle (length circle - 1) []) path
         → Dependencies lists recipes (Broken path.last.token (kind.CircularRecipeDependency recipe circle))
     starred : {d : UnresolvedDependency} → StandsWith Stands recipes d → lists ≡ false → has_star d.arguments ≡ true
         → Dependencies lists recipes (Broken d.recipe.last.token kind.MappedDependencyWithoutListsSetting)

@@ -50,7 +50,7 @@ use Rattle.just_module_contents.specs.RecipeNames.{BreaksRecipeNames, written_sc
 use Rattle.just_module_contents.specs.RecipeValues.{BreaksRecipe, HasPattern, IsPastLimits, Unvalued, of_names, of_pattern, of_value, of_values, past_limits, patterns_in}
 use Rattle.just_module_contents.specs.Recipes.{name_of, line_of, token_of, named_parameters, parameter_names, is_defaulted, is_needed, FollowsDefault, named_paths, dependency_paths, least_of, most_of, names_of, no_recipe, recipe_at, Depends, DependsOnRecipe}
 use Rattle.just_module_contents.specs.Standing.{InOne, in_recipe}
-use Rattle.just_module_contents.specs.Rules.{BreaksBodies, Dependencies, DependsBy, BreaksFunctions, BreaksHeaders, IsCircleOf, BreaksLists, BreaksNamings, BreaksDefinitions, BreaksParameters, BreaksRedefinition, BreaksSettings, StandsWith, WhereEvaluated, BreaksUnexports, BreaksVariables, argument_count, circular, duplicate_parameter, of_defined, of_functions, of_lists, of_named, of_parameters, of_sets, of_shells, of_unexports, of_variables, required_after_default, starred, under, unknown_dependency}
+use Rattle.just_module_contents.specs.Rules.{BreaksBodies, Dependencies, DependsBy, BreaksFunctions, BreaksHeaders, IsRecipeCircleOf, BreaksLists, BreaksNamings, BreaksDefinitions, BreaksParameters, BreaksRedefinition, BreaksSettings, StandsWith, WhereEvaluated, BreaksUnexports, BreaksVariables, argument_count, circular, duplicate_parameter, of_defined, of_functions, of_lists, of_named, of_parameters, of_sets, of_shells, of_unexports, of_variables, required_after_default, starred, under, unknown_dependency}
 
 -- What the rules read of a recipe.
 pub record Outline : Type 0 where
@@ -214,7 +214,7 @@ module _ (rs qs : List (Recipe UnresolvedDependency)) (alike : AreAlike rs qs) w
     name_is = sym (name d.to) ∙ d.name_is;
   }
 
-  circle_alike : (recipe : List ℕ) (circle : List (List ℕ)) → IsCircleOf rs recipe circle → IsCircleOf qs recipe circle
+  circle_alike : (recipe : List ℕ) (circle : List (List ℕ)) → IsRecipeCircleOf rs recipe circle → IsRecipeCircleOf qs recipe circle
   circle_alike recipe circle c = record { steps = c.steps; closed = c.closed; walk = λ k h. depends_on_alike (get_or circle k []) (get_or circle (k + 1) []) (c.walk k h); closing = c.closing }
 
   -- a recipe of a name depends on a path in both

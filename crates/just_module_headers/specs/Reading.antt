@@ -25,7 +25,7 @@ enabled_items enabled items = filter (λ i. enabled (bare_item i)) items
 abbrev pub ast_of_both : List Item → List ListUse → Ast
 ast_of_both items lists = record (ast_of_items items) { list_features = lists }
 
--- without numbers
+-- the enabled items alone, without numbers
 abbrev pub located_ast : (Item → Bool) → Ast → Ast
 located_ast enabled ast = ast_of_both (map located_item (enabled_items enabled ast.items)) ast.list_features
 

@@ -11,7 +11,7 @@ use Rattle.just_justfile.specs.declared.aliases.Aliases.{Aliases}
 use Rattle.just_module_contents.specs.Recipes.{lent}
 use Rattle.just_module_contents.specs.Rules.{unknown_target}
 use Rattle.just_module_contents.proofs.RecipePlaces.{length-lent}
-use Rattle.just_module_recipes.specs.Aliased.{IsAdded, Targets, UnknownTarget, UnknownTargets, aliases_of, aliases_onto, as_disabled, as_module_alias, as_recipe_alias, disabled_among, meant, modules_among, name_of_alias, no_aliases, no_meaning, recipes_among}
+use Rattle.just_module_recipes.specs.Aliased.{IsAdded, Targets, UnknownTarget, UnknownTargets, aliases_of, aliases_onto, as_disabled, as_module_alias, as_recipe_alias, disabled_among, alias_meant, modules_among, name_of_alias, no_aliases, no_meaning, recipes_among}
 use Rattle.just_module_recipes.specs.Linked.{name_of_disabled}
 use Rattle.just_module_recipes.specs.declared.aliases.Meaning.{Meaning}
 use Rattle.just_names.specs.Name.{text_of_name}
@@ -35,11 +35,11 @@ module _ (t : Targets) where
   pub one_added : (before after : Aliases) (alias : Alias Namepath) (aliases : List (Alias Namepath)) → IsAdded t alias before after → aliases_onto t before (alias ∷ aliases) ≡ aliases_onto t after aliases
   one_added before after alias aliases added =
       (λ i. record {
-        disabled = (put_append name_of_disabled before.disabled (as_disabled alias (meant t alias.target)) (disabled_among t aliases)
+        disabled = (put_append name_of_disabled before.disabled (as_disabled alias (alias_meant t alias.target)) (disabled_among t aliases)
             ∙ ap (λ o. put_all name_of_disabled (put_all name_of_disabled before.disabled (as_disabled alias o)) (disabled_among t aliases)) added.means) i;
-        modules = (put_append name_of_alias before.modules (as_module_alias alias (meant t alias.target)) (modules_among t aliases)
+        modules = (put_append name_of_alias before.modules (as_module_alias alias (alias_meant t alias.target)) (modules_among t aliases)
             ∙ ap (λ o. put_all name_of_alias (put_all name_of_alias before.modules (as_module_alias alias o)) (modules_among t aliases)) added.means) i;
-        recipes = (put_append name_of_alias before.recipes (as_recipe_alias alias (meant t alias.target)) (recipes_among t aliases)
+        recipes = (put_append name_of_alias before.recipes (as_recipe_alias alias (alias_meant t alias.target)) (recipes_among t aliases)
             ∙ ap (λ o. put_all name_of_alias (put_all name_of_alias before.recipes (as_recipe_alias alias o)) (recipes_among t aliases)) added.means) i;
       })
       ∙ ap (λ (made : Aliases). aliases_onto t made aliases) (sym added.is)
@@ -47,7 +47,7 @@ module _ (t : Targets) where
   -- The first n aliases are added, and each of which the target is unknown is among the others.
   pub record AreAdded (aliases : List (Bor (Alias Namepath))) (n : ℕ) (made : Aliases) : Type 0 where
     pub rest : aliases_of t (lent aliases) ≡ aliases_onto t made (lent (drop n aliases))
-    pub left : (alias : Alias Namepath) → Contains (lent aliases) alias → meant t alias.target ≡ None → Contains (lent (drop n aliases)) alias
+    pub left : (alias : Alias Namepath) → Contains (lent aliases) alias → alias_meant t alias.target ≡ None → Contains (lent (drop n aliases)) alias
 
   pub none_added : (aliases : List (Bor (Alias Namepath))) (made : Aliases) → made ≡ no_aliases → AreAdded aliases 0 made
   none_added aliases made is = record { rest = ap (λ (m : Aliases). aliases_onto t m (lent aliases)) (sym is); left = λ alias there unknown. there }
@@ -64,13 +64,13 @@ module _ (t : Targets) where
     one_more before after so added = record {
       rest = so.rest ∙ ap (λ bs. aliases_onto t before (lent bs)) split ∙ one_added before after alias.now (lent (drop (n + 1) aliases)) added;
       left = λ other there unknown. elim (is_in other (alias.now ∷ lent (drop (n + 1) aliases)) (subst (λ bs. Contains (lent bs) other) split (so.left other there unknown))) [
-        | inl same ↦ (let no : None ≡ Some added.it = sym unknown ∙ ap (λ (a : Alias Namepath). meant t a.target) same ∙ added.means in cc)
+        | inl same ↦ (let no : None ≡ Some added.it = sym unknown ∙ ap (λ (a : Alias Namepath). alias_meant t a.target) same ∙ added.means in cc)
         | inr more ↦ contained other (lent (drop (n + 1) aliases)) more
       ];
     }
 
   -- one of which the target is unknown
-  pub refused : (alias : Alias Namepath) (place : Place) (name : Text) (target : Namepath) → meant t alias.target ≡ None → place ≡ alias.name.token → name ≡ text_of_name alias.name → target ≡ alias.target
+  pub refused : (alias : Alias Namepath) (place : Place) (name : Text) (target : Namepath) → alias_meant t alias.target ≡ None → place ≡ alias.name.token → name ≡ text_of_name alias.name → target ≡ alias.target
       → UnknownTarget t alias (Broken place (kind.UnknownAliasTarget name target))
   refused alias place name target unknown at named aims = subst (UnknownTarget t alias) (λ i. Broken (sym at i) (kind.UnknownAliasTarget (sym named i) (sym aims i))) (no_meaning unknown)
 
@@ -81,7 +81,7 @@ module _ (t : Targets) where
   -- all of them
   pub all_kept : (aliases : List (Bor (Alias Namepath))) (n : ℕ) (made : Aliases) → drop n aliases ≡ [] → AreAdded aliases n made → Keeps (UnknownTargets t (lent aliases))
   all_kept aliases n made end so _ (unknown_target {alias} there means) =
-      is_in alias [] (subst (λ bs. Contains (lent bs) alias) end (so.left alias there (means_none (meant t alias.target) means)))
+      is_in alias [] (subst (λ bs. Contains (lent bs) alias) end (so.left alias there (means_none (alias_meant t alias.target) means)))
 
   pub all_added : (aliases : List (Bor (Alias Namepath))) (n : ℕ) (made : Aliases) → drop n aliases ≡ [] → AreAdded aliases n made → made ≡ aliases_of t (lent aliases)
   all_added aliases n made end so = sym (so.rest ∙ ap (λ bs. aliases_onto t made (lent bs)) end)

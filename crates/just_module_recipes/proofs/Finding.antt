@@ -11,7 +11,7 @@ use Rattle.just_graph.proofs.Index.{got_in}
 use Rattle.just_graph.proofs.Members.{contained, is_in, in_map}
 use Rattle.just_justfile.specs.declared.resolution.Resolution.{Resolution}
 use Rattle.just_justfile.specs.declared.resolution.Resolution.TheVariants as resolution
-use Rattle.just_justfile.specs.Walks.{end_of, recipe_by}
+use Rattle.just_justfile.specs.Walks.{end_of_names, recipe_by}
 use Rattle.just_module_contents.proofs.RecipePlaces.{name_at_place, one_place}
 use Rattle.just_module_contents.specs.Recipes.{name_of, named_paths, names_of, no_recipe, recipe_at}
 use Rattle.just_module_contents.specs.Rules.{DependsBy}
@@ -58,7 +58,7 @@ no_front (x ∷ y ∷ front) last name e = absurd (let l = ap (λ (xs : List (Li
 
 -- a path of one name leads through no module
 pub nowhere : (it : Around) (path : Namepath) (name : List ℕ) → texts_of_path path ≡ name ∷ [] → found_by it path ≡ None
-nowhere it path name e = ap (λ (front : List Name). recipe_by (end_of it.absent it.modules (map text_of_name front)) [] [] (text_of_name path.last)) (no_front path.front path.last name e)
+nowhere it path name e = ap (λ (front : List Name). recipe_by (end_of_names it.absent it.modules (map text_of_name front)) [] [] (text_of_name path.last)) (no_front path.front path.last name e)
 
 module _ (rs : List (Recipe UnresolvedDependency)) (it : Around) where
   far_target : (path : Namepath) (o : Option (Resolution Number)) (t : Target) → found_by it path ≡ o → far_of o ≡ Some t → IsTarget rs it path t

@@ -24,7 +24,7 @@ use Rattle.just_parts.specs.Reading.{Reads, at_once, through}
 use Rattle.just_parts.specs.Scopes.{compiled_expressions, property_expressions}
 use Rattle.just_recipe.specs.declared.dependency.UnresolvedDependency.{UnresolvedDependency}
 use Rattle.just_recipe.specs.declared.recipe.Recipe.{Recipe}
-use Rattle.just_recipe_names.specs.Numbered.{attribute_by, named_by, property_by}
+use Rattle.just_recipe_names.specs.Numbered.{attribute_by, attribute_with, property_by}
 
 -- an expression with other numbers reads what it reads
 pub reads_still : (m : Known) (number_of : Text → Option Number) (hidden : Text → Bool) (e : Expression) (name : Text) → Reads m hidden (with_numbers number_of e) name → Reads m hidden e name
@@ -62,22 +62,22 @@ module _ (value : Expression → Option (List Text)) (outer inner : Expression �
     abbrev all_of : List (NamedAttribute Expression) → List A
     all_of = flat_map (λ (named : NamedAttribute Expression). has named.attribute)
 
-    back : (xs : List (NamedAttribute Expression)) (x : A) → Contains (all_of (map (named_by outer inner) xs)) x → (y : A) × Contains (all_of xs) y × (x ≡ f y)
+    back : (xs : List (NamedAttribute Expression)) (x : A) → Contains (all_of (map (attribute_with outer inner) xs)) x → (y : A) × Contains (all_of xs) y × (x ≡ f y)
     back xs x c =
-        let from = from_flat (λ (named : NamedAttribute Expression). has named.attribute) x (map (named_by outer inner) xs) (is_in x (all_of (map (named_by outer inner) xs)) c) in
-        let named = from_map (named_by outer inner) from.0 xs from.1 in
+        let from = from_flat (λ (named : NamedAttribute Expression). has named.attribute) x (map (attribute_with outer inner) xs) (is_in x (all_of (map (attribute_with outer inner) xs)) c) in
+        let named = from_map (attribute_with outer inner) from.0 xs from.1 in
         let there : In x (has (attribute_by outer inner named.0.attribute)) = subst (λ (n : NamedAttribute Expression). In x (has n.attribute)) named.2 from.2 in
         let y = from_map f x (has named.0.attribute) (subst (In x) (each named.0.attribute) there) in
         (y.0, contained y.0 (all_of xs) (in_flat (λ (n : NamedAttribute Expression). has n.attribute) y.0 named.0 xs named.1 y.1), y.2)
 
-    forth : (xs : List (NamedAttribute Expression)) (y : A) → Contains (all_of xs) y → Contains (all_of (map (named_by outer inner) xs)) (f y)
+    forth : (xs : List (NamedAttribute Expression)) (y : A) → Contains (all_of xs) y → Contains (all_of (map (attribute_with outer inner) xs)) (f y)
     forth xs y c =
         let from = from_flat (λ (named : NamedAttribute Expression). has named.attribute) y xs (is_in y (all_of xs) c) in
-        contained (f y) (all_of (map (named_by outer inner) xs)) (in_flat (λ (n : NamedAttribute Expression). has n.attribute) (f y) (named_by outer inner from.0) (map (named_by outer inner) xs) (in_map (named_by outer inner) from.0 xs from.1)
+        contained (f y) (all_of (map (attribute_with outer inner) xs)) (in_flat (λ (n : NamedAttribute Expression). has n.attribute) (f y) (attribute_with outer inner from.0) (map (attribute_with outer inner) xs) (in_map (attribute_with outer inner) from.0 xs from.1)
         (subst (In (f y)) (sym (each from.0.attribute)) (in_map f y (has from.0.attribute) from.2)))
 
   -- a recipe, and the same with numbers in its attributes
-  module _ (r made : Recipe UnresolvedDependency) (made_is : made.attributes ≡ map (named_by outer inner) r.attributes) where
+  module _ (r made : Recipe UnresolvedDependency) (made_is : made.attributes ≡ map (attribute_with outer inner) r.attributes) where
     abbrev compiled : List (NamedAttribute Expression) → List Expression
     compiled = all_of compiled_expressions outer compiled_by
 

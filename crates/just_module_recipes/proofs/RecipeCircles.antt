@@ -18,7 +18,7 @@ use Rattle.just_module_recipes.specs.Rows.{IsTokenOn, near}
 use Rattle.just_module_recipes.specs.declared.targets.Target.{Target}
 use Rattle.just_module_recipes.specs.declared.targets.Target.TheVariants.{Near}
 use Rattle.just_module_recipes.proofs.Nearby.{near_is}
-use Rattle.just_module_contents.specs.Rules.{IsCircleOf, IsDependencyOn}
+use Rattle.just_module_contents.specs.Rules.{IsRecipeCircleOf, IsDependencyOn}
 use Rattle.just_module_contents.proofs.RecipePlaces.{one_place}
 
 module _ (rs : List (Recipe UnresolvedDependency)) (different : AreDifferent (names_of rs)) where
@@ -39,7 +39,7 @@ module _ (rs : List (Recipe UnresolvedDependency)) (different : AreDifferent (na
       (step_of s.from j _ _ s.step.dependent s.dependent_is kj ej s)
 
   -- a circle of names leads from a recipe back to it
-  pub circle_leads : (recipe : List ℕ) (ns : List (List ℕ)) → IsCircleOf rs recipe ns → (i : ℕ) × (i < length rs) × Leads (Depends rs) i i
+  pub circle_leads : (recipe : List ℕ) (ns : List (List ℕ)) → IsRecipeCircleOf rs recipe ns → (i : ℕ) × (i < length rs) × Leads (Depends rs) i i
   circle_leads recipe ns c =
       let s : DependsOnRecipe rs (get_or ns 0 []) (get_or ns (0 + 1) []) = c.walk 0 (omega (arith, c.steps)) in
       let i : ℕ = s.from in
@@ -55,7 +55,7 @@ module _ (rs : List (Recipe UnresolvedDependency)) (ns : List ℕ) (c : IsCircle
         let same : slice_index ns k ≡ slice_index ns 0 = ap (slice_index ns) (omega arith) ∙ sym c.closed in omega arith
   ]
 
-  pub circle_of : (recipe : List ℕ) (names : List (List ℕ)) → names ≡ map (λ a. name_of (recipe_at rs a)) ns → recipe ≡ name_of (recipe_at rs (slice_index ns (length ns - 2))) → IsCircleOf rs recipe names
+  pub circle_of : (recipe : List ℕ) (names : List (List ℕ)) → names ≡ map (λ a. name_of (recipe_at rs a)) ns → recipe ≡ name_of (recipe_at rs (slice_index ns (length ns - 2))) → IsRecipeCircleOf rs recipe names
   circle_of recipe names e r =
       let name : ℕ → List ℕ = λ a. name_of (recipe_at rs a) in
       let len : length names ≡ length ns = ap length e ∙ length-map ns name in

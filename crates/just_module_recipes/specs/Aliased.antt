@@ -48,8 +48,8 @@ as_module (Some (resolution.Disabled modules)) other = Some (meaning.Disabled mo
 as_module (Some (resolution.Resolved path)) other = Some (meaning.Module path)
 
 -- What is meant by a path: the module that it leads to, or where it leads to none the recipe. What lies in optional modules without a file is disabled. Aliases are not looked at.
-abbrev pub meant : Targets → Namepath → Option Meaning
-meant t path = as_module (resolved_module t.absent t.modules path) (as_recipe (resolved_recipe t.absent t.disabled t.modules t.recipes path))
+abbrev pub alias_meant : Targets → Namepath → Option Meaning
+alias_meant t path = as_module (resolved_module t.absent t.modules path) (as_recipe (resolved_recipe t.absent t.disabled t.modules t.recipes path))
 
 -- an alias of that, in place of a path
 abbrev pub aimed : {T : Type 0} → Alias Namepath → T → Alias T
@@ -70,13 +70,13 @@ as_recipe_alias alias _ = []
 
 -- of aliases those that are disabled, those of modules, and those of recipes, in order
 abbrev pub disabled_among : Targets → List (Alias Namepath) → List Disabled
-disabled_among t = flat_map (λ (alias : Alias Namepath). as_disabled alias (meant t alias.target))
+disabled_among t = flat_map (λ (alias : Alias Namepath). as_disabled alias (alias_meant t alias.target))
 
 abbrev pub modules_among : Targets → List (Alias Namepath) → List (Alias Modulepath)
-modules_among t = flat_map (λ (alias : Alias Namepath). as_module_alias alias (meant t alias.target))
+modules_among t = flat_map (λ (alias : Alias Namepath). as_module_alias alias (alias_meant t alias.target))
 
 abbrev pub recipes_among : Targets → List (Alias Namepath) → List (Alias Number)
-recipes_among t = flat_map (λ (alias : Alias Namepath). as_recipe_alias alias (meant t alias.target))
+recipes_among t = flat_map (λ (alias : Alias Namepath). as_recipe_alias alias (alias_meant t alias.target))
 
 abbrev pub name_of_alias : {T : Type 0} → Alias T → Text
 name_of_alias alias = text_of_name alias.name
@@ -107,13 +107,13 @@ with_meaning before alias it = record {
 -- an alias means something, and is added to tables
 pub record IsAdded (t : Targets) (alias : Alias Namepath) (before after : Aliases) : Type 0 where
   pub it : Meaning
-  pub means : meant t alias.target ≡ Some it
+  pub means : alias_meant t alias.target ≡ Some it
   pub is : after ≡ with_meaning before alias it
 
 -- The target of an alias means nothing. It is told at the alias's name.
 pub data UnknownTarget (t : Targets) (alias : Alias Namepath) : Cause → Type 0 where
-  no_meaning : meant t alias.target ≡ None → UnknownTarget t alias (Broken alias.name.token (kind.UnknownAliasTarget (text_of_name alias.name) alias.target))
+  no_meaning : alias_meant t alias.target ≡ None → UnknownTarget t alias (Broken alias.name.token (kind.UnknownAliasTarget (text_of_name alias.name) alias.target))
 
 -- that of one of these aliases does
 abbrev pub UnknownTargets : Targets → List (Alias Namepath) → Cause → Type 0
-UnknownTargets t aliases = BreaksTargets (λ path. meant t path ≢ None) aliases
+UnknownTargets t aliases = BreaksTargets (λ path. alias_meant t path ≢ None) aliases

@@ -8,7 +8,7 @@ use Rattle.just_errors.specs.declared.compile_error.CompileErrorKind.TheVariants
 use Rattle.just_justfile.specs.declared.resolution.Resolution.{Resolution}
 use Rattle.just_justfile.specs.declared.resolution.Resolution.TheVariants as resolution
 use Rattle.just_module_contents.specs.Recipes.{name_of, named_paths, recipe_at}
-use Rattle.just_module_contents.specs.Rules.{DependsBy, IsCircleOf, IsDependencyOn}
+use Rattle.just_module_contents.specs.Rules.{DependsBy, IsRecipeCircleOf, IsDependencyOn}
 use Rattle.just_module_recipes.specs.Links.{Around, PathLeadsTo, IsNameOf, around, found_by}
 use Rattle.just_module_recipes.specs.declared.targets.Surroundings.{Surroundings}
 use Rattle.just_module_recipes.specs.declared.targets.Target.{Target}
@@ -93,7 +93,7 @@ pub data Lost (recipes : List (Recipe UnresolvedDependency)) (it : Around) : Cau
 
 -- A recipe depends on itself.
 pub data Circular (recipes : List (Recipe UnresolvedDependency)) : Cause → Type 0 where
-  circle : {recipe : List ℕ} {circle : List (List ℕ)} {path : Namepath} → IsCircleOf recipes recipe circle → IsDependencyOn recipes recipe (get_or circle (length circle - 1) []) path
+  circle : {recipe : List ℕ} {circle : List (List ℕ)} {path : Namepath} → IsRecipeCircleOf recipes recipe circle → IsDependencyOn recipes recipe (get_or circle (length circle - 1) []) path
       → Circular recipes (Broken path.last.token (kind.CircularRecipeDependency recipe circle))
 
 -- A recipe at a place is barred by a path: a dependency of it is gone by that, or leads to one of the module that is barred by it.

@@ -3,7 +3,7 @@
 ghost use Rattle.std.specs.Prelude.{◌≡◌, IfErr, IfOk, OnOk};
 ghost use Rattle.just_errors.specs.Causes.{Keeps, Reports};
 ghost use Rattle.just_module_contents.specs.Definitions.{aliases_in};
-ghost use Rattle.just_module_recipes.specs.Aliased.{IsAdded, UnknownTarget, UnknownTargets, aliases_of, as_recipe, meant, targets, with_meaning};
+ghost use Rattle.just_module_recipes.specs.Aliased.{IsAdded, UnknownTarget, UnknownTargets, aliases_of, as_recipe, alias_meant, targets, with_meaning};
 ghost use Rattle.just_justfile.specs.Walks.{AreOrdered, resolved_recipe};
 
 use just_data::BorrowedText;
@@ -57,7 +57,7 @@ fn meant<'src>(
 ) -> Result<Option<Meaning>, AllocError>
     requires { AreOrdered modules.now }
     ensures { let t = targets absent.now disabled.now modules.now recipes.now in
-        IfOk result (λ it. it ≡ meant t path.now) }
+        IfOk result (λ it. it ≡ alias_meant t path.now) }
 {
     match Resolution::resolve_module(alloc, path, absent, modules)? {
         Some(Resolution::Disabled(set)) => Ok(Some(Meaning::Disabled(set))),

@@ -15,7 +15,7 @@ use Rattle.just_module_headers.specs.Reading.{Reading, Submodule, imports_of, su
 use Rattle.just_module_contents.specs.Labels.{doc_by}
 use Rattle.just_module_contents.specs.declared.labels.Label.{Label}
 
--- a label whose doc is not evaluated
+-- a label whose doc is a text, with nothing to evaluate
 abbrev pub label : Option Name → Option Text → List StringLiteral → Bool → Label
 label name doc groups private = record { name = name; doc = doc; doc_expression = None; groups = groups; private = private }
 

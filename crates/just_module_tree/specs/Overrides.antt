@@ -18,8 +18,8 @@ abbrev pub OverrideKey : Type 0
 OverrideKey = Modulepath × Text
 
 -- a key as it is shown: as the path that leads from the module's one name on, to the variable
-abbrev pub shown : OverrideKey → Text
-shown key = text_of (key.0.components ++ key.1 ∷ []) key.0.spaced
+abbrev pub shown_key : OverrideKey → Text
+shown_key key = text_of (key.0.components ++ key.1 ∷ []) key.0.spaced
 
 -- A name leads from a module with those in it to another one with those in it: to the one of the name in it, or where there is none to the one to which the target of an alias of the name leads.
 pub data StepsTo (m : Module) (inside : Forest) (name : Text) (n : Module) (within : Forest) : Type 0 where
@@ -43,7 +43,7 @@ pub record MeansVariable (top : Module) (below : Forest) (key : OverrideKey) : T
 pub data AreUnknown (Means : OverrideKey → Type 0) : List OverrideKey → List Text → Type 0 where
   no_key : AreUnknown Means [] []
   is_known : {key : OverrideKey} {keys : List OverrideKey} {texts : List Text} → Means key → AreUnknown Means keys texts → AreUnknown Means (key ∷ keys) texts
-  is_unknown : {key : OverrideKey} {keys : List OverrideKey} {texts : List Text} → (Means key → ⊥) → AreUnknown Means keys texts → AreUnknown Means (key ∷ keys) (shown key ∷ texts)
+  is_unknown : {key : OverrideKey} {keys : List OverrideKey} {texts : List Text} → (Means key → ⊥) → AreUnknown Means keys texts → AreUnknown Means (key ∷ keys) (shown_key key ∷ texts)
 
 -- Keys mean nothing. All of these are told.
 pub data NamesNone (Means : OverrideKey → Type 0) (keys : List OverrideKey) : Cause → Type 0 where

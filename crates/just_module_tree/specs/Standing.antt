@@ -98,16 +98,16 @@ abbrev pub BreaksDependencies : Bool → Module → Forest → Cause → Type 0
 BreaksDependencies lists m inside = Dependencies (LeadsSomewhere m inside) (StandsInTree m inside) (TakesIn lists m inside) lists (kept_in m)
 
 -- the value of an expression among the constants of a module
-abbrev pub value_in : Layers → Evaluated → Module → Expression → Option (List Text)
-value_in layers it m = value_among layers.evaluator (contents_of m) it.constants
+abbrev pub constant_in : Layers → Evaluated → Module → Expression → Option (List Text)
+constant_in layers it m = value_among layers.evaluator (contents_of m) it.constants
 
 -- a rule of one recipe is broken by one of a module's kept recipes that stands
 abbrev pub BreaksStandingInTree : Layers → Evaluated → Module → Forest → Cause → Type 0
-BreaksStandingInTree layers it m inside = InStanding (StandsInTree m inside) (BreaksRecipe (value_in layers it m) layers.syntax (known_of layers.syntax (contents_of m)) it.settings) (kept_in m)
+BreaksStandingInTree layers it m inside = InStanding (StandsInTree m inside) (BreaksRecipe (constant_in layers it m) layers.syntax (known_of layers.syntax (contents_of m)) it.settings) (kept_in m)
 
 -- a pattern of one of these is past the size or the nesting that regular expressions may have
 abbrev pub IsPastLimitsIn : Layers → Evaluated → Module → Forest → Cause → Type 0
-IsPastLimitsIn layers it m inside = InStanding (StandsInTree m inside) (IsPastLimits (value_in layers it m)) (kept_in m)
+IsPastLimitsIn layers it m inside = InStanding (StandsInTree m inside) (IsPastLimits (constant_in layers it m)) (kept_in m)
 
 -- The target of an alias leads to a module, to one without a file, or to a kept recipe.
 pub data HasTargetInTree (m : Module) (inside : Forest) (path : Namepath) : Type 0 where

@@ -15,7 +15,7 @@ use Rattle.just_names.specs.Index.{texts_of_names}
 use Rattle.just_module_contents.specs.Constants.{AsksFor, IsNeeded, functions_asked, is_overridden, overriding}
 use Rattle.just_module_contents.specs.Contents.{Contents}
 use Rattle.just_module_contents.specs.Known.{functions_under, known_of, variables_under}
-use Rattle.just_module_variables.specs.Numbered.{number_under, numbered_assignment, numbered_assignments, numbered_function, numbered_functions}
+use Rattle.just_module_variables.specs.Numbered.{number_in_function, numbered_assignment, numbered_assignments, numbered_function, numbered_functions}
 use Rattle.just_parts.specs.Bare.{bare_function, bare_function_parameter}
 use Rattle.just_parts.specs.Evaluator.{functions_by_name, needed_by, override_by, unnumbered, unnumbered_assignment, unnumbered_function, wanted_by}
 use Rattle.just_parts.specs.Known.{Known, defines, hides, known, none_hidden, range_of, sources}
@@ -70,10 +70,10 @@ module _ (answers : SyntaxAnswers) (m : Contents) where
   with_their_numbers = known answers (numbered_assignments numbered) (numbered_functions numbered)
 
   value_keeps : (a : Assignment) → references (numbered_assignment numbered a).value ≡ references a.value
-  value_keeps a = keeps_references (number_under numbered []) a.value
+  value_keeps a = keeps_references (number_in_function numbered []) a.value
 
   body_keeps : (f : FunctionDefinition) → references (numbered_function numbered f).body ≡ references f.body
-  body_keeps f = keeps_references (number_under numbered f.parameters) f.body
+  body_keeps f = keeps_references (number_in_function numbered f.parameters) f.body
 
   to_numbers : AreSimilar variables (numbered_assignments numbered) functions (numbered_functions numbered)
   to_numbers = similar_changed (numbered_assignment numbered) (numbered_function numbered) value_keeps (λ f. refl) body_keeps variables functions
@@ -106,10 +106,10 @@ module _ (answers : SyntaxAnswers) (m : Contents) where
 
   -- variables and functions without numbers
   assignment_asked : (a : Assignment) → unnumbered_assignment (numbered_assignment numbered a) ≡ unnumbered_assignment (located_assignment a)
-  assignment_asked a = λ i. record (unnumbered_assignment a) { value = numbers_stay (number_under numbered []) (λ name. None) a.value i }
+  assignment_asked a = λ i. record (unnumbered_assignment a) { value = numbers_stay (number_in_function numbered []) (λ name. None) a.value i }
 
   function_asked : (f : FunctionDefinition) → unnumbered_function (numbered_function numbered f) ≡ unnumbered_function (bare_function f)
-  function_asked f = λ i. record f { parameters = sym (bare_parameters f.parameters) i; body = numbers_stay (number_under numbered f.parameters) (λ name. None) f.body i }
+  function_asked f = λ i. record f { parameters = sym (bare_parameters f.parameters) i; body = numbers_stay (number_in_function numbered f.parameters) (λ name. None) f.body i }
 
   function_found : (o : Option FunctionDefinition) → option_map unnumbered_function (option_map (numbered_function numbered) o) ≡ option_map unnumbered_function (option_map bare_function o)
   function_found None = refl

@@ -9,7 +9,7 @@ use Rattle.just_ast_definitions.specs.declared.assignment.Assignment.{Assignment
 use Rattle.just_ast_definitions.specs.declared.function_definition.FunctionDefinition.{FunctionDefinition}
 use Rattle.just_ast_definitions.specs.declared.function_definition.FunctionParameter.{FunctionParameter}
 use Rattle.just_table.specs.Entries.{IsKeyed, IsSorted}
-use Rattle.just_module_variables.specs.Numbered.{AreBindings, assignment_by, assignments_by, function_by, functions_by, name_of_assignment, name_of_function, number_by, number_under}
+use Rattle.just_module_variables.specs.Numbered.{AreBindings, assignment_by, assignments_by, function_by, functions_by, name_of_assignment, name_of_function, number_by, number_in_function}
 use Rattle.just_module_variables.specs.Resolved.{AreVariablesResolved}
 use Rattle.just_module_variables.proofs.Order.{name_of, order_named}
 use Rattle.just_module_variables.proofs.Tables.{put_map}
@@ -26,7 +26,7 @@ module _ (m : Known) (sorted : IsSorted m.assignments) (sorted_functions : IsSor
       → IsKeyed name_of_assignment m.assignments → IsKeyed name_of_function m.functions → AreVariablesResolved m numbers order assignments functions
   resolved names order places assignments functions named at in_order variables bodies keyed keyed_functions =
       let number : List FunctionParameter → Text → Option Number = number_by numbers m.constant in
-      let same : number ≡ number_under m = λ i. number_by (λ name. are keyed name i) m.constant in
+      let same : number ≡ number_in_function m = λ i. number_by (λ name. are keyed name i) m.constant in
       record {
         bindings = are keyed;
         evaluation_order = order_named m names order places sorted keyed named at in_order;

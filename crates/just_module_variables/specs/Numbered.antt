@@ -21,8 +21,8 @@ parameter_number (p ∷ ps) name = option_or (parameter_number ps name) (if byte
 abbrev pub number_by : (Text → Option Number) → (Text → Option Number) → List FunctionParameter → Text → Option Number
 number_by variable constant parameters name = option_or (parameter_number parameters name) (option_or (variable name) (constant name))
 
-abbrev pub number_under : Known → List FunctionParameter → Text → Option Number
-number_under m = number_by (number_of m) m.constant
+abbrev pub number_in_function : Known → List FunctionParameter → Text → Option Number
+number_in_function m = number_by (number_of m) m.constant
 
 -- a variable and a function whose names have these numbers
 abbrev pub with_value_numbers : (Text → Option Number) → Assignment → Assignment
@@ -35,10 +35,10 @@ abbrev pub function_by : (List FunctionParameter → Text → Option Number) →
 function_by number f = record f { body = with_numbers (number f.parameters) f.body }
 
 abbrev pub numbered_assignment : Known → Assignment → Assignment
-numbered_assignment m = assignment_by (number_under m)
+numbered_assignment m = assignment_by (number_in_function m)
 
 abbrev pub numbered_function : Known → FunctionDefinition → FunctionDefinition
-numbered_function m = function_by (number_under m)
+numbered_function m = function_by (number_in_function m)
 
 -- the variables and the functions of a module, each under its name, with these numbers
 abbrev pub numbered_assignments : Known → List (Text × Assignment)

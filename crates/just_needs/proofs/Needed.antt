@@ -9,7 +9,7 @@ use Rattle.just_execution.specs.Leading.{LeadTo}
 use Rattle.just_execution.specs.declared.task.Task.{Task}
 use Rattle.just_graph.proofs.Members.{In, contained, is_in}
 use Rattle.just_justfile.specs.Closed.{StandsIn}
-use Rattle.just_justfile.specs.Running.{IsReadBy, arguments_of, known_of}
+use Rattle.just_justfile.specs.Running.{IsReadBy, arguments_of, known_by_tables}
 use Rattle.just_justfile.specs.declared.justfile.Justfile.{Justfile, out-Justfile}
 use Rattle.just_names.specs.Texts.{Text}
 use Rattle.just_names.specs.declared.number.Number.{Number}
@@ -43,11 +43,11 @@ module _ (answers : SyntaxAnswers) (j : Justfile) where
   dec-read-by : (r : Recipe Dependency) (name : Text) → Dec (IsReadBy answers j r name)
   dec-read-by r name =
       let scopes : List Scoped = scopes_of arguments_of answers (out-Justfile j).settings r in
-      let has : Scoped → Type 0 = λ s. Reads (known_of j) s.hidden s.expression name in
+      let has : Scoped → Type 0 = λ s. Reads (known_by_tables j) s.hidden s.expression name in
       dec-by {A = (s : Scoped) × In s scopes × has s}
       (λ h. record { from = h.0; there = contained h.0 scopes h.1; reads = h.2 })
       (λ b. (b.from, is_in b.from scopes b.there, b.reads))
-      (dec-some has (λ s. dec-reads (known_of j) name s.hidden s.expression) scopes)
+      (dec-some has (λ s. dec-reads (known_by_tables j) name s.hidden s.expression) scopes)
 
   module _ (recipes : List (Recipe Dependency)) (tops : List Task) where
     -- a variable is evaluated anyhow, or read by a recipe that stands at a place
@@ -75,8 +75,8 @@ module _ (answers : SyntaxAnswers) (j : Justfile) where
         (dec-some (IsReadAt name) (dec-read-at name) (below (length recipes))))
 
     -- so a set has the numbers of exactly what is needed
-    needed-set : (set : Number → Bool) × ((n : Number) → (set n ≡ true) ↔ IsNumberIn (known_of j) (IsNeededVariable answers recipes tops j) n)
-    needed-set = some-set (known_of j) (overridden_by (has_number (out-Justfile j).overridden) (known_of j)) (NeedsAtOnce answers recipes tops j) dec-at-once
+    needed-set : (set : Number → Bool) × ((n : Number) → (set n ≡ true) ↔ IsNumberIn (known_by_tables j) (IsNeededVariable answers recipes tops j) n)
+    needed-set = some-set (known_by_tables j) (overridden_by (has_number (out-Justfile j).overridden) (known_by_tables j)) (NeedsAtOnce answers recipes tops j) dec-at-once
 
 -- there are sets of what is needed, and they are one in each module
 pub some-sets : (answers : SyntaxAnswers) (root : Justfile) (recipes : List (Recipe Dependency)) (tops : List Task) → (sets : NumberSets) × AreNeeds answers root recipes tops sets
@@ -92,7 +92,7 @@ dec-from used j name = dec-by (λ h. record { assigned = h.0; is = h.1; starts =
     (dec-found (λ a. is_start used (out-Justfile j).settings a ≡ true) (λ a. dec-is (is_start used (out-Justfile j).settings a) true) (find name (out-Justfile j).assignments))
 
 found-set : (used : Number → Bool) (j : Justfile) → (set : Number → Bool) × IsFound used j set
-found-set used j = some-set (known_of j) (overridden_by (has_number (out-Justfile j).overridden) (known_of j)) (IsNeededAtOnce used j) (dec-from used j)
+found-set used j = some-set (known_by_tables j) (overridden_by (has_number (out-Justfile j).overridden) (known_by_tables j)) (IsNeededAtOnce used j) (dec-from used j)
 
 pub some-from : (used : Number → Bool) (root : Justfile) → (sets : NumberSets) × AreNeedsFrom used root sets
 some-from used root = (λ j. (found-set used j).0, λ j stands. (found-set used j).1)

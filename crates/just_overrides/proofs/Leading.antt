@@ -9,10 +9,10 @@ use Rattle.just_justfile.proofs.Returning.{found_by_path}
 use Rattle.just_justfile.specs.Closed as standing
 use Rattle.just_justfile.specs.Closed.{AreClosed, StandsIn}
 use Rattle.just_justfile.specs.Walks as walks
-use Rattle.just_justfile.specs.Walks.{End, end_of, inner_along, module_named, recipe_from}
+use Rattle.just_justfile.specs.Walks.{End, end_of_names, inner_along, module_named, recipe_from}
 use Rattle.just_justfile.specs.declared.aliases.Aliases.{Aliases}
 use Rattle.just_justfile.specs.declared.justfile.Justfile.{Justfile, out-Justfile}
-use Rattle.just_module_recipes.specs.Aliased.{aimed, as_module_alias, as_recipe, meant, modules_among, name_of_alias, targets_of}
+use Rattle.just_module_recipes.specs.Aliased.{aimed, as_module_alias, as_recipe, alias_meant, modules_among, name_of_alias, targets_of}
 use Rattle.just_module_recipes.specs.declared.aliases.Meaning.{Meaning}
 use Rattle.just_module_recipes.specs.declared.aliases.Meaning.TheVariants as meaning
 use Rattle.just_module_tree.specs.Modules.{Forest, Module, contents_of}
@@ -35,7 +35,7 @@ use Rattle.just_compiled.proofs.Aliasing.{all_agree, module_led, of_module_alias
 use Rattle.just_compiled.proofs.Meanings.{meaning_at, meant_by}
 use Rattle.just_compiled.proofs.NamedModules.{found_sorted}
 use Rattle.just_compiled.proofs.RecipeKeys.{found_among, not_found}
-use Rattle.just_overrides.specs.Reached.{aliased, reached_from, step}
+use Rattle.just_overrides.specs.Reached.{aliased, reached_from, module_step}
 use Rattle.just_overrides.proofs.Kept.{OnceAll, once_followed, once_inner}
 use Rattle.just_overrides.proofs.Once.{OnceNamed}
 
@@ -132,14 +132,14 @@ module _ (given : Given) (asts : AstKey → Option Ast) (loaded : List Text) (bu
         elim (found_among name_of_alias name made [] (modules_among t _) (ap (λ (it : Aliases). find name it.modules) (sym shows.is.fields.aliases_are) ∙ f)) [
           | inr wrong ↦ absurd (cc)
           | inl k ↦ (
-              let a = from_flat (λ (a : Alias Namepath). as_module_alias a (meant t a.target)) made _ k.0 in
-              let is = of_module_alias a.0 made (meant t a.0.target) a.2 in
-              let led = module_led (end_of t.absent t.modules (texts_of_path a.0.target)) (recipe_from j a.0.target) made.target (sym (meant_by t a.0.target) ∙ is) in
+              let a = from_flat (λ (a : Alias Namepath). as_module_alias a (alias_meant t a.target)) made _ k.0 in
+              let is = of_module_alias a.0 made (alias_meant t a.0.target) a.2 in
+              let led = module_led (end_of_names t.absent t.modules (texts_of_path a.0.target)) (recipe_from j a.0.target) made.target (sym (meant_by t a.0.target) ∙ is) in
               let to = module_of (all_agree given asts loaded built m inside j shows a.0.target.front a.0.target.last) led.0 led.1 in
               record {
                 alias = a.0;
                 there = subst (In a.0) shows.says.aliases a.1;
-                named = ap text_of_name (sym (module_alias_name a.0 made (meant t a.0.target) a.2)) ∙ k.1;
+                named = ap text_of_name (sym (module_alias_name a.0 made (alias_meant t a.0.target) a.2)) ∙ k.1;
                 n = to.0;
                 within = to.1;
                 c = led.0;
@@ -155,10 +155,10 @@ module _ (given : Given) (asts : AstKey → Option Ast) (loaded : List Text) (bu
       not_lost f =
           let t = targets_of j in
           let to = justfile_of (all_agree given asts loaded built m inside j shows alias.target.front alias.target.last) n within leads in
-          let is : meant t alias.target ≡ Some (meaning.Module (out-Justfile to.0).module_path) = meant_by t alias.target ∙ ap (λ e. meaning_at e (as_recipe (recipe_from j alias.target))) to.1 in
+          let is : alias_meant t alias.target ≡ Some (meaning.Module (out-Justfile to.0).module_path) = meant_by t alias.target ∙ ap (λ e. meaning_at e (as_recipe (recipe_from j alias.target))) to.1 in
           let made : Alias Modulepath = aimed alias (out-Justfile to.0).module_path in
           not_found name_of_alias (text_of_name alias.name) [] (modules_among t _) (ap (λ (it : Aliases). find (text_of_name alias.name) it.modules) (sym shows.is.fields.aliases_are) ∙ f) made
-          (in_flat (λ (a : Alias Namepath). as_module_alias a (meant t a.target)) made alias _ (subst (In alias) (sym shows.says.aliases) there) (subst (λ o. In made (as_module_alias alias o)) (sym is) (inl refl))) refl
+          (in_flat (λ (a : Alias Namepath). as_module_alias a (alias_meant t a.target)) made alias _ (subst (In alias) (sym shows.says.aliases) there) (subst (λ o. In made (as_module_alias alias o)) (sym is) (inl refl))) refl
 
       -- so the alias of the name leads there
       pub alias_on : (made : Alias Modulepath) → find (text_of_name alias.name) (out-Justfile j).aliases.modules ≡ Some made
@@ -227,11 +227,11 @@ module _ (given : Given) (asts : AstKey → Option Ast) (loaded : List Text) (bu
       led k = found_cases (LedBy k) (inner_led k) (λ e f g. alias_led e k (find name (out-Justfile j).aliases.modules) refl g)
 
       -- where a name leads through justfiles it leads in the tree
-      pub step_back : (k : Justfile) → step root j name ≡ Some k → Led k
+      pub step_back : (k : Justfile) → module_step root j name ≡ Some k → Led k
       step_back k e = led k (inner_found m inside j at.shows name) refl refl e
 
       abbrev Stepped : Module → Forest → Type 0
-      Stepped n within = (k : Justfile) × (step root j name ≡ Some k) × At n within k
+      Stepped n within = (k : Justfile) × (module_step root j name ≡ Some k) × At n within k
 
       abbrev SteppedBy : Module → Forest → Option (Module × Forest) → Option Justfile → Type 0
       SteppedBy n within o q = find_inner name inside ≡ o → module_named name (out-Justfile j).modules ≡ q → o ≡ Some (n, within) → Stepped n within
@@ -274,7 +274,7 @@ module _ (given : Given) (asts : AstKey → Option Ast) (loaded : List Text) (bu
     here_back m inside j k at e = (m, inside, at_end, at_justfile m inside j k (some_same e) at)
 
     one_back : (name : Text) (names : List Text) (m : Module) (inside : Forest) (j next k : Justfile) → At m inside j → ((n : Module) (within : Forest) → At n within next → ReachedBack names n within k)
-        → step root j name ≡ Some next → ReachedBack (name ∷ names) m inside k
+        → module_step root j name ≡ Some next → ReachedBack (name ∷ names) m inside k
     one_back name names m inside j next k at later f =
         let s = step_back m inside j at name next f in
         let r = later s.0 s.1 s.3 in
@@ -286,10 +286,10 @@ module _ (given : Given) (asts : AstKey → Option Ast) (loaded : List Text) (bu
     -- so do names, one after another
     pub reached_back : (names : List Text) (m : Module) (inside : Forest) (j k : Justfile) → At m inside j → reached_from root j names ≡ Some k → ReachedBack names m inside k
     reached_back [] m inside j k at e = here_back m inside j k at e
-    reached_back (name ∷ names) m inside j k at e = go (λ n within next. reached_back names n within next k) (step root j name) refl e
+    reached_back (name ∷ names) m inside j k at e = go (λ n within next. reached_back names n within next k) (module_step root j name) refl e
       where
         go : ((n : Module) (within : Forest) (next : Justfile) → At n within next → reached_from root next names ≡ Some k → ReachedBack names n within k)
-            → (o : Option Justfile) → step root j name ≡ o → option_and_then (λ (next : Justfile). reached_from root next names) o ≡ Some k → ReachedBack (name ∷ names) m inside k
+            → (o : Option Justfile) → module_step root j name ≡ o → option_and_then (λ (next : Justfile). reached_from root next names) o ≡ Some k → ReachedBack (name ∷ names) m inside k
         go later None f g = absurd (none_back k names g)
         go later (Some next) f g = one_back name names m inside j next k at (λ n within x. later n within next x g) f
 

@@ -10,7 +10,7 @@ use Rattle.just_justfile.specs.declared.justfile.Justfile.{Justfile, out-Justfil
 use Rattle.just_module_headers.specs.Reading.{Reading, reading_of}
 use Rattle.just_module_tree.specs.Groups.{KeepsModules}
 use Rattle.just_module_tree.specs.Modules.{AreModules, Empty, Forest, Heading, Module, Tree, a_module, first, in_it, no_module}
-use Rattle.just_module_tree.specs.Overrides.{AreUnknown, BreaksOverrides, OverrideKey, MeansVariable, NamesNone, is_known, is_unknown, no_key, no_variables, shown}
+use Rattle.just_module_tree.specs.Overrides.{AreUnknown, BreaksOverrides, OverrideKey, MeansVariable, NamesNone, is_known, is_unknown, no_key, no_variables, shown_key}
 use Rattle.just_names.specs.Texts.{Text}
 use Rattle.just_names.specs.declared.number.Number.{Number}
 use Rattle.just_parts.specs.Asts.{AstKey}
@@ -122,7 +122,7 @@ module _ (given : Given) (asts : AstKey → Option Ast) (loaded : List Text) (bu
     are_unknown [] = no_key
     are_unknown (entry ∷ entries) = go (are_unknown entries) (variable_of root entry.0) refl
       where
-        go : AreUnknown Means (keys_of entries) (unknown root entries) → (o : Option Number) → variable_of root entry.0 ≡ o → AreUnknown Means (entry.0 ∷ keys_of entries) (told_of (shown entry.0) o ++ unknown root entries)
+        go : AreUnknown Means (keys_of entries) (unknown root entries) → (o : Option Number) → variable_of root entry.0 ≡ o → AreUnknown Means (entry.0 ∷ keys_of entries) (told_of (shown_key entry.0) o ++ unknown root entries)
         go rest None e = is_unknown (means_on entry.0 e) rest
         go rest (Some number) e = is_known (means_back entry.0 number e) rest
 
@@ -134,7 +134,7 @@ module _ (given : Given) (asts : AstKey → Option Ast) (loaded : List Text) (bu
     all_known [] e key i = absurd i
     all_known (entry ∷ entries) e key i = go (λ g. all_known entries g key) (variable_of root entry.0) refl e i
       where
-        go : (unknown root entries ≡ [] → In key (keys_of entries) → Means key) → (o : Option Number) → variable_of root entry.0 ≡ o → told_of (shown entry.0) o ++ unknown root entries ≡ [] → In key (entry.0 ∷ keys_of entries) → Means key
+        go : (unknown root entries ≡ [] → In key (keys_of entries) → Means key) → (o : Option Number) → variable_of root entry.0 ≡ o → told_of (shown_key entry.0) o ++ unknown root entries ≡ [] → In key (entry.0 ∷ keys_of entries) → Means key
         go rest None f g i = cc
         go rest (Some number) f g (inl same) = subst Means (sym same) (means_back entry.0 number f)
         go rest (Some number) f g (inr i) = rest g i

@@ -11,7 +11,7 @@ use Rattle.just_justfile.specs.declared.justfile.Justfile.{Justfile, out-Justfil
 use Rattle.just_names.specs.Texts.{Text}
 use Rattle.just_paths.specs.declared.modulepath.Modulepath.{Modulepath}
 use Rattle.just_table.specs.Entries.{find}
-use Rattle.just_overrides.specs.Reached.{aliased, reached_from, step}
+use Rattle.just_overrides.specs.Reached.{aliased, reached_from, module_step}
 
 -- the names of the modules in one to which names lead rise
 along_ordered : (root j : Justfile) (names : List Text) → AreModulesOrdered root → inner_along root names ≡ Some j → AreModulesOrdered j
@@ -28,7 +28,7 @@ module _ (root : Justfile) (rooted : AreModulesOrdered root) where
   by_found j k name (Some inner) order f e = subst AreModulesOrdered (some_same e) (named_ordered name (out-Justfile j).modules inner order f)
 
   -- so do those in one to which a name leads
-  pub step_ordered : (j : Justfile) (name : Text) (o : Option (Bor Justfile)) → AreModulesOrdered j → option_copied o ≡ step root j name → IfSome o (λ k. AreModulesOrdered k.now)
+  pub step_ordered : (j : Justfile) (name : Text) (o : Option (Bor Justfile)) → AreModulesOrdered j → option_copied o ≡ module_step root j name → IfSome o (λ k. AreModulesOrdered k.now)
   step_ordered j name None order e = tt
   step_ordered j name (Some k) order e = by_found j k.now name (module_named name (out-Justfile j).modules) order refl (sym e)
 
@@ -37,7 +37,7 @@ module _ (root : Justfile) where
   abbrev pub goes_from : Option Justfile → List Text → Option Justfile
   goes_from found names = option_and_then (λ (next : Justfile). reached_from root next names) found
 
-  pub next_reached : (names : List Text) (at : ℕ) (j : Justfile) (found : Option Justfile) → at < length names → found ≡ step root j (get_or names at []) → reached_from root j (drop at names) ≡ goes_from found (drop (at + 1) names)
+  pub next_reached : (names : List Text) (at : ℕ) (j : Justfile) (found : Option Justfile) → at < length names → found ≡ module_step root j (get_or names at []) → reached_from root j (drop at names) ≡ goes_from found (drop (at + 1) names)
   next_reached names at j found more e =
       ap (reached_from root j) (drop-cons names at [] more ∙ (λ i. get_or names at [] ∷ drop (sym (add-one at) i) names))
       ∙ ap (λ o. goes_from o (drop (at + 1) names)) (sym e)

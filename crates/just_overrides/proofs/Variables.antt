@@ -25,7 +25,7 @@ use Rattle.just_parts.specs.Syntax.{SyntaxAnswers}
 use Rattle.just_table.specs.Entries.{find}
 use Rattle.just_compiled.proofs.Agreeing.{Shows}
 use Rattle.just_compiled.proofs.RecipeKeys.{found_among, not_found}
-use Rattle.just_compiled.specs.Justfiles.{Built, contents_in}
+use Rattle.just_compiled.specs.Justfiles.{Built, contents_read}
 
 some_mapped : (f : Assignment → Assignment) (o : Option Assignment) → is_some (option_map f o) ≡ is_some o
 some_mapped f None = refl
@@ -56,7 +56,7 @@ bare_found answers m name =
 
 module _ (given : Given) (asts : AstKey → Option Ast) (loaded : List Text) (built : List Built) (m : Module) (inside : Forest) (j : Justfile) (shows : Shows given asts loaded built m inside j) (name : Text) where
   abbrev here : Contents
-  here = contents_in given.syntax.enabled asts m.files
+  here = contents_read given.syntax.enabled asts m.files
 
   same_found : is_some (find name (out-Justfile j).assignments) ≡ is_some (find name (variables_under (contents_of m).variables))
   same_found =

@@ -8,7 +8,7 @@ use Rattle.just_module_tree.specs.Overrides.{OverrideKey}
 use Rattle.just_names.specs.Texts.{Text}
 use Rattle.just_names.specs.declared.number.Number.{Number}
 use Rattle.just_overrides.specs.Inserted.{AreInserted}
-use Rattle.just_overrides.specs.Reached.{meant, unknown}
+use Rattle.just_overrides.specs.Reached.{overrides_meant, unknown}
 
 -- these keys are told, of which there are some
 abbrev pub TellsUnknown : List Text → Cause → Type 0
@@ -16,4 +16,4 @@ TellsUnknown texts c = (texts ≢ []) × (c ≡ NoVariables texts)
 
 -- each key means a variable, and the values are put in under their numbers, one after another
 abbrev pub AreApplied : {G : Type 0} → Justfile → BTreeMap OverrideKey Text → HashMap Number Text G → HashMap Number Text G → Type 0
-AreApplied root given old new = (unknown root given.entries ≡ []) × AreInserted (meant root given.entries) old new
+AreApplied root given old new = (unknown root given.entries ≡ []) × AreInserted (overrides_meant root given.entries) old new

@@ -5,7 +5,7 @@ use Rattle.just_ast_definitions.specs.declared.alias.Alias.{Alias}
 use Rattle.just_ast_definitions.specs.declared.assignment.Assignment.{Assignment}
 use Rattle.just_justfile.specs.Walks.{inner_along, module_named}
 use Rattle.just_justfile.specs.declared.justfile.Justfile.{Justfile, out-Justfile}
-use Rattle.just_module_tree.specs.Overrides.{OverrideKey, shown}
+use Rattle.just_module_tree.specs.Overrides.{OverrideKey, shown_key}
 use Rattle.just_names.specs.Texts.{Text}
 use Rattle.just_names.specs.declared.number.Number.{Number}
 use Rattle.just_paths.specs.declared.modulepath.Modulepath.{Modulepath}
@@ -16,13 +16,13 @@ abbrev pub aliased : Justfile → Justfile → Text → Option Justfile
 aliased root j name = option_and_then (λ (alias : Alias Modulepath). inner_along root alias.target.components) (find name (out-Justfile j).aliases.modules)
 
 -- the module that a name leads to from a module: the one of the name in it, or else that of an alias
-abbrev pub step : Justfile → Justfile → Text → Option Justfile
-step root j name = option_or (module_named name (out-Justfile j).modules) (aliased root j name)
+abbrev pub module_step : Justfile → Justfile → Text → Option Justfile
+module_step root j name = option_or (module_named name (out-Justfile j).modules) (aliased root j name)
 
 -- the module that names lead to from a module, one after another
 abbrev pub reached_from : Justfile → Justfile → List Text → Option Justfile
 reached_from root j [] = Some j
-reached_from root j (name ∷ names) = option_and_then (λ (next : Justfile). reached_from root next names) (step root j name)
+reached_from root j (name ∷ names) = option_and_then (λ (next : Justfile). reached_from root next names) (module_step root j name)
 
 abbrev pub reached : Justfile → List Text → Option Justfile
 reached root = reached_from root root
@@ -46,9 +46,9 @@ told_of key None = key ∷ []
 told_of key (Some number) = []
 
 -- the numbers of the variables that keys mean, with the values that are given, in the order of the keys
-abbrev pub meant : Justfile → List (OverrideKey × Text) → List (Number × Text)
-meant root entries = flat_map (λ (entry : OverrideKey × Text). given_for entry.1 (variable_of root entry.0)) entries
+abbrev pub overrides_meant : Justfile → List (OverrideKey × Text) → List (Number × Text)
+overrides_meant root entries = flat_map (λ (entry : OverrideKey × Text). given_for entry.1 (variable_of root entry.0)) entries
 
 -- the keys that mean no variable, as they are shown, in their order
 abbrev pub unknown : Justfile → List (OverrideKey × Text) → List Text
-unknown root entries = flat_map (λ (entry : OverrideKey × Text). told_of (shown entry.0) (variable_of root entry.0)) entries
+unknown root entries = flat_map (λ (entry : OverrideKey × Text). told_of (shown_key entry.0) (variable_of root entry.0)) entries

@@ -4,8 +4,8 @@ ghost use Rattle.just_errors.specs.Causes.{Reports};
 ghost use Rattle.just_justfile.specs.Walks.{AreModulesOrdered};
 ghost use Rattle.just_overrides.specs.Applied.{AreApplied, TellsUnknown};
 ghost use Rattle.just_overrides.specs.Inserted.{AreAsBefore};
-ghost use Rattle.just_module_tree.specs.Overrides.{shown};
-ghost use Rattle.just_overrides.specs.Reached.{meant, unknown};
+ghost use Rattle.just_module_tree.specs.Overrides.{shown_key};
+ghost use Rattle.just_overrides.specs.Reached.{overrides_meant, unknown};
 
 use crate::insertion::insert_all;
 use crate::walk::variable_of;
@@ -19,7 +19,7 @@ use std::collections::{BTreeMap, HashMap};
 
 // A key as it is shown: as the path that leads from the module's one name on, to the variable.
 fn shown(alloc: Global, key: &(Modulepath, Text)) -> Result<Text, AllocError>
-    ensures { IfOk result (λ text. text ≡ shown key.now) }
+    ensures { IfOk result (λ text. text ≡ shown_key key.now) }
 {
     let (path, name) = key;
     let path = path.join(name.as_str())?;
@@ -38,7 +38,7 @@ fn judge<'src>(
     given: &BTreeMap<(Modulepath, Text), Text>,
 ) -> Result<Judged, AllocError>
     requires { AreModulesOrdered root.now }
-    ensures meant { IfOk result (λ it. it.meant.items ≡ meant root.now given.now.entries) }
+    ensures overrides_meant { IfOk result (λ it. it.meant.items ≡ overrides_meant root.now given.now.entries) }
     ensures unknown { IfOk result (λ it. it.unknown.items ≡ unknown root.now given.now.entries) }
 {
     let mut meant = Vec::new(alloc);

@@ -2,7 +2,7 @@
 ghost use Rattle.std.specs.Prelude.{◌≡◌};
 ghost use Rattle.std.specs.Option.{option_copied};
 ghost use Rattle.just_justfile.specs.Walks.{AreModulesOrdered};
-ghost use Rattle.just_overrides.specs.Reached.{aliased, reached, step, variable_of};
+ghost use Rattle.just_overrides.specs.Reached.{aliased, reached, module_step, variable_of};
 
 use just_data::Text;
 use just_justfile::{Justfile, find_module};
@@ -32,7 +32,7 @@ fn step<'run, 'src>(
 ) -> Option<&'run Justfile<'src>>
     requires root { AreModulesOrdered root.now }
     requires inner { AreModulesOrdered «module».now }
-    ensures { option_copied result ≡ step root.now «module».now name.now }
+    ensures { option_copied result ≡ module_step root.now «module».now name.now }
 {
     match find_module(module.modules.as_slice(), name) {
         Some(inner) => Some(inner),

@@ -25,7 +25,7 @@ pub use just_ast_expressions::{
 pub use just_ast_items::Edge;
 pub use just_errors::{
     ArgumentRange, CompileError, CompileErrorKind, Definition, Error, Fault, Halt, InvocationError,
-    LoadError, Refusal, RunError, Signal, SourceError, Switch,
+    LoadError, Refusal, RunError, Signal, SourceError, Status, Switch,
 };
 pub use just_names::{Exhausted, ListFeature, Name, Namepath, Number, Numerator, Token};
 pub use just_patterns::Pattern;

@@ -49,12 +49,12 @@ contents_of syntax body = record {
 }
 
 -- where its expressions and lines are evaluated
-abbrev pub around : BodyContents → Surroundings
-around b = record { context = b.context; scope = b.scope; is_dependency = b.is_dependency; environment = b.environment }
+abbrev pub surroundings_of : BodyContents → Surroundings
+surroundings_of b = record { context = b.context; scope = b.scope; is_dependency = b.is_dependency; environment = b.environment }
 
 -- the name of its recipe
-abbrev pub name_of : BodyContents → Text
-name_of b = text_of_name b.recipe.name
+abbrev pub body_name : BodyContents → Text
+body_name b = text_of_name b.recipe.name
 
 -- a text, or what its fault is told by; an answer of another kind does not come up
 abbrev pub unevaluated : Text → RunError
@@ -70,18 +70,18 @@ text_or fault _ = Fail Memory
 
 -- the text of an expression, and that of a line
 abbrev pub string_steps : BodyContents → Expression → Interaction Text
-string_steps b expression = Ask (ToEvaluator (StringOf (around b) expression)) (text_or unevaluated)
+string_steps b expression = Ask (ToEvaluator (StringOf (surroundings_of b) expression)) (text_or unevaluated)
 
 abbrev pub line_steps : BodyContents → Line → Bool → Interaction Text
-line_steps b line continued = Ask (ToEvaluator (LineOf (around b) line continued)) (text_or unevaluated)
+line_steps b line continued = Ask (ToEvaluator (LineOf (surroundings_of b) line continued)) (text_or unevaluated)
 
 -- the folder of its module: for the root that of the configuration, where there is one
-abbrev pub folder_of : List Text → Option Text → Text → Text
-folder_of [] (Some configured) own = configured
-folder_of _ _ own = own
+abbrev pub module_folder : List Text → Option Text → Text → Text
+module_folder [] (Some configured) own = configured
+module_folder _ _ own = own
 
 abbrev pub folder : BodyContents → Text
-folder b = folder_of b.context.module_path.components b.context.config.working_directory b.context.working_directory
+folder b = module_folder b.context.module_path.components b.context.config.working_directory b.context.working_directory
 
 -- the folder that it runs in, where it changes to one: that of the module, or the one to which the text of an attribute leads from there
 abbrev pub joined_steps : BodyContents → Option Expression → Interaction (Option Text)
@@ -141,7 +141,7 @@ change_of pair = record { name = pair.name; value = Some pair.value }
 abbrev pub with_pairs : List EnvironmentChange → List EnvironmentPair → List EnvironmentChange
 with_pairs changes pairs = changes ++ map change_of pairs
 
--- much is shown, nothing is shown, or all is
+-- the verbosities at which more is shown than by default, and the one at which nothing is
 abbrev pub is_loquacious : Verbosity → Bool
 is_loquacious verbosity.Loquacious = true
 is_loquacious verbosity.Grandiloquent = true
@@ -152,6 +152,6 @@ is_mute verbosity.Quiet = true
 is_mute _ = false
 
 -- what a result comes to
-abbrev pub given : {A : Type 0} → Result A RunError → Interaction A
-given (Ok x) = Return x
-given (Err e) = Fail (Failed e)
+abbrev pub concluded : {A : Type 0} → Result A RunError → Interaction A
+concluded (Ok x) = Return x
+concluded (Err e) = Fail (Failed e)

@@ -12,7 +12,7 @@ use Rattle.just_run_layers.specs.declared.host.Entry.TheVariants.{Confirm}
 use Rattle.just_run_layers.specs.Host.{Answer, Given, Refused}
 use Rattle.just_run_layers.specs.Interactions.{Ask, Fail, Return, Interaction, ToHost, and_then}
 use Rattle.just_recipe_body.specs.Attributes.{first_said}
-use Rattle.just_recipe_body.specs.Body.{BodyContents, name_of, string_steps}
+use Rattle.just_recipe_body.specs.Body.{BodyContents, body_name, string_steps}
 
 -- the prompt that an attribute says, which may be left to the recipe's name
 abbrev pub confirmation_in : Attribute Expression → Option (Option Expression)
@@ -44,7 +44,7 @@ said_prompt text = text ++ codes " "
 
 abbrev pub confirm_by : BodyContents → Option (Option Expression) → Interaction Bool
 confirm_by b None = Return true
-confirm_by b (Some None) = prompt_steps (usual_prompt (name_of b))
+confirm_by b (Some None) = prompt_steps (usual_prompt (body_name b))
 confirm_by b (Some (Some prompt)) = and_then (string_steps b prompt) (λ text. prompt_steps (said_prompt text))
 
 -- A recipe that wants no confirmation may run; another one where the line after its prompt says yes.

@@ -9,8 +9,8 @@ use Rattle.just_errors.specs.declared.run_error.RunError.TheVariants as run
 use Rattle.just_errors.specs.declared.signal.Signal.{Signal}
 use Rattle.just_names.specs.Texts.{Text}
 use Rattle.just_run_layers.specs.declared.run_answer.RunAnswer.{RunAnswer}
-use Rattle.just_run_layers.specs.declared.run_answer.Status.{Status}
-use Rattle.just_run_layers.specs.declared.run_answer.Status.TheVariants as status
+use Rattle.just_errors.specs.declared.status.Status.{Status}
+use Rattle.just_errors.specs.declared.status.Status.TheVariants as status
 use Rattle.just_recipe_body.specs.declared.judgement.Marks.{Marks}
 use Rattle.just_recipe_body.specs.declared.judgement.Next.{Next}
 use Rattle.just_recipe_body.specs.declared.judgement.Next.TheVariants.{Onward, Ended}

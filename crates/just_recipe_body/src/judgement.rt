@@ -7,9 +7,9 @@ ghost use Rattle.just_recipe_body.specs.Judging as spec;
 use crate::attributes::continues_on;
 use just_ast_expressions::Sigil;
 use just_data::{BorrowedText, Text};
-use just_errors::{RunError, Signal};
+use just_errors::{RunError, Signal, Status};
 use just_recipe::Recipe;
-use just_run_layers::{RunAnswer, Status};
+use just_run_layers::RunAnswer;
 
 /// What comes after the command of a group of lines.
 #[derive(Clone, Copy)]

@@ -91,8 +91,8 @@ attribute_by outer inner (attribute.Timestamp e) = attribute.Timestamp (option_m
 attribute_by outer inner (attribute.WorkingDirectory e) = attribute.WorkingDirectory (inner e)
 attribute_by outer inner other = other
 
-abbrev pub named_by : (Expression → Expression) → (Expression → Expression) → NamedAttribute Expression → NamedAttribute Expression
-named_by outer inner named = record named { attribute = attribute_by outer inner named.attribute }
+abbrev pub attribute_with : (Expression → Expression) → (Expression → Expression) → NamedAttribute Expression → NamedAttribute Expression
+attribute_with outer inner named = record named { attribute = attribute_by outer inner named.attribute }
 
 -- expressions whose names have the numbers of what they mean under parameters
 module _ (number : List Parameter → Text → Option Number) where
@@ -114,7 +114,7 @@ abbrev pub numbered_recipe : (Text → Option Number) → SyntaxAnswers → Sett
 numbered_recipe variable answers settings r =
     let number = number_under variable answers in
     record r {
-      attributes = map (named_by (under number []) (under number r.parameters)) r.attributes;
+      attributes = map (attribute_with (under number []) (under number r.parameters)) r.attributes;
       body = numbered_body number answers settings r;
       dependencies = map (dependency_by (under number r.parameters)) r.dependencies;
       parameters = numbered_parameters number [] r.parameters;

@@ -2,7 +2,7 @@
 
 ghost use Rattle.std.specs.Prelude.{◌≡◌, IfOk, map};
 ghost use Rattle.std.specs.Option.{option_map};
-ghost use Rattle.just_recipe_names.specs.Numbered.{argument_by, attribute_by, cache_by, environment_by, looked_up, named_by, property_by};
+ghost use Rattle.just_recipe_names.specs.Numbered.{argument_by, attribute_by, cache_by, environment_by, looked_up, attribute_with, property_by};
 
 use just_data::Sequence;
 use just_name_resolution::{Numbers, numbered};
@@ -134,7 +134,7 @@ fn numbered_named<'a, 'src, S: Syntax>(
 ) -> Result<NamedAttribute<'src>, AllocError>
     ensures { let outer = looked_up (S.answers outer.now.syntax.now) outer.now in
         let inner = looked_up (S.answers inner.now.syntax.now) inner.now in
-        IfOk result (λ made. made ≡ named_by outer inner named.now) }
+        IfOk result (λ made. made ≡ attribute_with outer inner named.now) }
 {
     Ok(NamedAttribute {
         name: named.name.copied(),
@@ -151,7 +151,7 @@ pub fn numbered_attributes<'a, 'src, S: Syntax>(
 ) -> Result<Sequence<NamedAttribute<'src>>, AllocError>
     ensures { let outer = looked_up (S.answers outer.now.syntax.now) outer.now in
         let inner = looked_up (S.answers inner.now.syntax.now) inner.now in
-        IfOk result (λ made. made ≡ map (named_by outer inner) attributes.now) }
+        IfOk result (λ made. made ≡ map (attribute_with outer inner) attributes.now) }
 {
     let mut made = Vec::with_capacity(alloc, attributes.len())?;
     for named in attributes {

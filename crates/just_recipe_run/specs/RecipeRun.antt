@@ -27,12 +27,12 @@ body_by syntax context r environment is_dependency positional scope = record {
 }
 
 -- that a recipe runs, as it is shown where much is
-abbrev pub running : Modulepath → Text
-running path = codes "===> running recipe `" ++ (text_of path.components path.spaced ++ codes "`...")
+abbrev pub running_text : Modulepath → Text
+running_text path = codes "===> running recipe `" ++ (text_of path.components path.spaced ++ codes "`...")
 
 abbrev pub running_steps : Bool → Option Modulepath → Interaction (Unit {0})
 running_steps loquacious None = Return tt
-running_steps loquacious (Some path) = cond loquacious (show_steps (running path)) (Return tt)
+running_steps loquacious (Some path) = cond loquacious (show_steps (running_text path)) (Return tt)
 
 -- what a recipe is for, as it is shown where that is asked for
 abbrev pub explained : Text → Text

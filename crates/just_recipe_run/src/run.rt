@@ -21,7 +21,7 @@ use std::alloc::{AllocError, Global};
 
 // That a recipe runs, as it is shown.
 fn running(alloc: Global, path: &Modulepath) -> Result<Text, AllocError>
-    ensures { IfOk result (λ line. line ≡ spec.running path.now) }
+    ensures { IfOk result (λ line. line ≡ spec.running_text path.now) }
 {
     Text::from_string(format!(in alloc; "===> running recipe `{path}`...")?)
 }

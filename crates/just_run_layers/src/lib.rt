@@ -16,4 +16,4 @@ pub use environment::{EnvironmentChange, EnvironmentPair};
 pub use evaluation::Evaluation;
 pub use held::Held;
 pub use host::{Entry, Groups, Host};
-pub use run_answer::{RunAnswer, Status};
+pub use run_answer::RunAnswer;

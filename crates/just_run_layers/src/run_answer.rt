@@ -1,23 +1,6 @@
-//! How programs end.
-use just_data::{Exact, Text};
-use just_errors::Signal;
-
-/// How a program ended.
-#[derive(Clone, PartialEq, Eq, Drop)]
-pub enum Status {
-    /// By itself, with this code.
-    Code(i32),
-    /// By a signal, whose number may be known.
-    NoCode(Option<i32>),
-    /// It did not start, for this reason.
-    NotStarted(Text),
-}
-
-impl Exact for Status {
-    ghost use Rattle.std.proofs.Common.{rules};
-
-    ghost exact = { Prim.search rules };
-}
+//! What a host answers of a program.
+use just_data::Exact;
+use just_errors::{Signal, Status};
 
 /// How a program ended, and which signal the run was sent meanwhile.
 #[derive(Clone, PartialEq, Eq, Drop)]

@@ -15,7 +15,7 @@ use Rattle.just_execution.specs.declared.task.Task.{Task}
 use Rattle.just_execution.proofs.Homes.{All-got}
 use Rattle.just_graph.proofs.Members.{In, contained, from_reverse}
 use Rattle.just_justfile.specs.Closed.{IsPlaced, StandsIn}
-use Rattle.just_justfile.specs.Running.{CanRun, HoldsOverridden, TellsBareLines, arguments_of, known_of}
+use Rattle.just_justfile.specs.Running.{CanRun, HoldsOverridden, TellsBareLines, arguments_of, known_by_tables}
 use Rattle.just_justfile.specs.declared.justfile.Justfile.{Justfile, out-Justfile}
 use Rattle.just_name_resolution.proofs.Placed.{the_value}
 use Rattle.just_name_resolution.proofs.Sets.{number_itself, or_left, or_right}
@@ -83,7 +83,7 @@ module _ (answers : SyntaxAnswers) (root : Justfile) (recipes : List (Recipe Dep
 
   -- whatever an expression reads that is to be bound is bound
   read-bound : (j : Justfile) (lazy : Bool) (set : NumberSet) (scope : Scope) → StandsIn root j → IsSetFor used j lazy set → Binds (out-Justfile j).assignments (wanted_from handed j set) scope →
-      (s : Scoped) → ((name : Text) → Reads (known_of j) s.hidden s.expression name → IsToBeBound lazy answers recipes tops j name) → IsRead (known_of j) scope s
+      (s : Scoped) → ((name : Text) → Reads (known_by_tables j) s.hidden s.expression name → IsToBeBound lazy answers recipes tops j name) → IsRead (known_by_tables j) scope s
   read-bound j lazy set scope stands is_set bound s to_be name a reads is =
       let wanted : (wanted_from handed j set).needed name ≡ true = (wanted-bound stands is_set name).1 (to_be name reads) in
       let b = bound-in (reverse scope.bindings) name (bound.exactly name ∙ wanted) in
@@ -107,7 +107,7 @@ module _ (answers : SyntaxAnswers) (root : Justfile) (recipes : List (Recipe Dep
 
     -- what a recipe reads to which tasks lead is to be bound
     to-bind : (lazy : Bool) (j : Justfile) (place : ℕ) (r : Recipe Dependency) → RunsInModule recipes tops j place r → (s : Scoped) → Contains (scopes_of arguments_of answers (out-Justfile j).settings r) s →
-        (name : Text) → Reads (known_of j) s.hidden s.expression name → IsToBeBound lazy answers recipes tops j name
+        (name : Text) → Reads (known_by_tables j) s.hidden s.expression name → IsToBeBound lazy answers recipes tops j name
     to-bind true j place r runs s c name reads = starts (read place r runs (record { from = s; there = c; reads = reads }))
     to-bind false j place r runs s c name reads = reads-some reads
 
@@ -116,7 +116,7 @@ module _ (answers : SyntaxAnswers) (root : Justfile) (recipes : List (Recipe Dep
         let b = All-contains (IsOpenedBy used handed) opened o bound c in
         let scopes : List Scoped = scopes_of arguments_of answers (out-Justfile o.justfile).settings r in
         let runs : RunsInModule recipes tops o.justfile place r = record { led = led; there = at; path = path } in
-        All-weaker (Contains scopes) (IsRead (known_of o.justfile) o.scope)
+        All-weaker (Contains scopes) (IsRead (known_by_tables o.justfile) o.scope)
         (λ s i. read-bound o.justfile o.lazy b.set o.scope (stands o c) b.is_set b.binds s (to-bind o.lazy o.justfile place r runs s i)) scopes (All-contains_itself scopes)
 
     placed-all : (place : ℕ) (r : Recipe Dependency) → LeadTo recipes tops place → slice_get recipes place ≡ Some r → (o : Opened) × Contains opened o × (r.module_path ≡ Some (out-Justfile o.justfile).module_path)

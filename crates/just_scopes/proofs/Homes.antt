@@ -2,8 +2,8 @@
 use Rattle.std.proofs.Common.{◌≡◌, ◌∙◌, ◌&&◌, Bool, true, false, cond, List, [], ◌∷◌, Option, Some, None, IsSome, refl, sym, ap, subst, inl, inr}
 use Rattle.std.specs.List.{All}
 use Rattle.std.specs.Option.{option_map, option_or}
-use Rattle.just_execution.specs.Homes.{AllHaveModuleScope, IsRead, Modules, arguments_of, module_at}
-use Rattle.just_execution.specs.Scene.{ModuleContents, Scene, contents_found, contents_of, running}
+use Rattle.just_execution.specs.Homes.{AllHaveModuleScope, IsRead, Modules, arguments_of, module_scope_at}
+use Rattle.just_execution.specs.Scene.{ModuleContents, contents_found, contents_of, running}
 use Rattle.just_execution.specs.Scene as scenes
 use Rattle.just_execution.specs.declared.scopes.ModuleScope.{ModuleScope}
 use Rattle.just_execution.specs.declared.task.Task.{Task}
@@ -76,11 +76,11 @@ module _ (answers : SyntaxAnswers) (root : Justfile) (recipes : List (Recipe Dep
       let path : Modulepath = (out-Justfile first.0.justfile).module_path in
       let o = the_value (opened_at path opened) (some-at path opened first.0 (is_in first.0 opened first.1) (own-path path)) in
       let there = at-path path opened o.0 o.1 in
-      let m = found-some (module_at modules (Some path)) (contents_in handed o.0) (under path ∙ ap (option_map (contents_in handed)) o.1) in
+      let m = found-some (module_scope_at modules (Some path)) (contents_in handed o.0) (under path ∙ ap (option_map (contents_in handed)) o.1) in
       let is : r.module_path ≡ Some (out-Justfile o.0.justfile).module_path = first.2 ∙ ap (λ p. Some p) (sym there.1) in
       record {
         home = m.0;
-        there = ap (module_at modules) first.2 ∙ m.1;
+        there = ap (module_scope_at modules) first.2 ∙ m.1;
         own = record {
           path = is ∙ ap (λ (c : ModuleContents). Some c.context.module_path) (sym m.2);
           bound = subst (λ (c : ModuleContents). All (IsRead (sources c.context.assignments c.context.functions) c.scope) (scopes_of arguments_of answers c.context.settings r)) (sym m.2)
@@ -90,7 +90,7 @@ module _ (answers : SyntaxAnswers) (root : Justfile) (recipes : List (Recipe Dep
 
 -- and the scene that they are is that of open modules
 module _ (front : Front) (opened : List Opened) (modules : Modules) (under : AreModulesOf front.handed opened modules) where
-  same-under : (path : Option Modulepath) → contents_found (module_at modules path) ≡ option_map (contents_in front.handed) (opened_under path opened)
+  same-under : (path : Option Modulepath) → contents_found (module_scope_at modules path) ≡ option_map (contents_in front.handed) (opened_under path opened)
   same-under None = refl
   same-under (Some path) = under path
 

@@ -9,7 +9,7 @@ use Rattle.just_execution.proofs.Homes.{All-got}
 use Rattle.just_execution.specs.declared.task.Task.{Task}
 use Rattle.just_graph.proofs.Members.{In, contained}
 use Rattle.just_justfile.specs.Closed.{IsPlaced, StandsIn}
-use Rattle.just_justfile.specs.Running.{CanRun, HasNeeds, IsReadBy, NeedsIn, TellsBareLines, known_of}
+use Rattle.just_justfile.specs.Running.{CanRun, HasNeeds, IsReadBy, NeedsIn, TellsBareLines, known_by_tables}
 use Rattle.just_justfile.specs.declared.justfile.Justfile.{Justfile, out-Justfile}
 use Rattle.just_name_resolution.proofs.Placed.{the_value}
 use Rattle.just_name_resolution.proofs.Searching.{not_overridden}
@@ -46,13 +46,13 @@ got-in (y ∷ xs) zero x h = let same : y ≡ x = cc in inl (sym same)
 got-in (y ∷ xs) (suc k) x h = inr (got-in xs k x h)
 
 -- a set is closed, in a run as well
-pub closed-set : (j : Justfile) (S : Text → Type 0) (set overridden : Number → Bool) → HaveNumbersApart (known_of j) → ((n : Number) → (set n ≡ true) ↔ IsNumberIn (known_of j) (NeedsIn j S) n) →
-    ((n : Number) → has_number (out-Justfile j).overridden n ≡ true → overridden n ≡ true) → IsClosed (known_of j) overridden set
+pub closed-set : (j : Justfile) (S : Text → Type 0) (set overridden : Number → Bool) → HaveNumbersApart (known_by_tables j) → ((n : Number) → (set n ≡ true) ↔ IsNumberIn (known_by_tables j) (NeedsIn j S) n) →
+    ((n : Number) → has_number (out-Justfile j).overridden n ≡ true → overridden n ≡ true) → IsClosed (known_by_tables j) overridden set
 closed-set j S set overridden apart is held from to a b found there reads free inside =
     let i = (is a.number).0 inside in
     let same : i.name ≡ from = apart i.name from i.assigned a i.is found i.number in
     let needs : NeedsIn j S from = subst (NeedsIn j S) same i.there in
-    (is b.number).1 (record { name = to; assigned = b; is = there; number = refl; there = onward needs (not_overridden (has_number (out-Justfile j).overridden) (known_of j) from a found seen) reads })
+    (is b.number).1 (record { name = to; assigned = b; is = there; number = refl; there = onward needs (not_overridden (has_number (out-Justfile j).overridden) (known_by_tables j) from a found seen) reads })
   where
     seen : has_number (out-Justfile j).overridden a.number ≡ false
     seen = elim (cases_Bool (has_number (out-Justfile j).overridden a.number)) [
@@ -70,7 +70,7 @@ pub found-one : (used : Number → Bool) (j : Justfile) (set other : Number → 
 found-one used j set other a b = fun_ext (λ n. same-test (set n) (other n) (λ h. (b n).1 ((a n).0 h)) (λ h. (a n).1 ((b n).0 h)))
 
 -- numbers in one module are apart
-pub numbers-apart : (answers : SyntaxAnswers) (root : Justfile) (recipes : List (Recipe Dependency)) → CanRun answers root recipes → (j : Justfile) → StandsIn root j → HaveNumbersApart (known_of j)
+pub numbers-apart : (answers : SyntaxAnswers) (root : Justfile) (recipes : List (Recipe Dependency)) → CanRun answers root recipes → (j : Justfile) → StandsIn root j → HaveNumbersApart (known_by_tables j)
 numbers-apart answers root recipes run j stands x y a b is there same = (run.numbers j j x y a b stands stands is there same).1
 
 module _ (answers : SyntaxAnswers) (root : Justfile) (recipes : List (Recipe Dependency)) (tops : List Task) (used : Number → Bool)
@@ -104,13 +104,13 @@ module _ (answers : SyntaxAnswers) (root : Justfile) (recipes : List (Recipe Dep
       starts (record { assigned = v.0; is = v.1; starts = or_left (used v.0.number) (is_chosen (out-Justfile j).settings v.0) u })
 
   -- so a set that is found has what is needed, and the other way round
-  pub found-needed : (set : Number → Bool) → IsFound used j set → (n : Number) → (set n ≡ true) ↔ IsNumberIn (known_of j) (IsNeededVariable answers recipes tops j) n
+  pub found-needed : (set : Number → Bool) → IsFound used j set → (n : Number) → (set n ≡ true) ↔ IsNumberIn (known_by_tables j) (IsNeededVariable answers recipes tops j) n
   found-needed set found n = (
     (λ h. number-flat (need-flat start-needed) n ((found n).0 h)),
     (λ i. (found n).1 (number-flat (need-flat needed-start) n i)),
   )
 
-  pub needed-found : (set : Number → Bool) → ((n : Number) → (set n ≡ true) ↔ IsNumberIn (known_of j) (IsNeededVariable answers recipes tops j) n) → IsFound used j set
+  pub needed-found : (set : Number → Bool) → ((n : Number) → (set n ≡ true) ↔ IsNumberIn (known_by_tables j) (IsNeededVariable answers recipes tops j) n) → IsFound used j set
   needed-found set is n = (
     (λ h. number-flat (need-flat needed-start) n ((is n).0 h)),
     (λ i. (is n).1 (number-flat (need-flat start-needed) n i)),

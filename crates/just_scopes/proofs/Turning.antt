@@ -6,7 +6,7 @@ use Rattle.std.proofs.Math.Seq.{drop-length, take-length}
 use Rattle.std.proofs.lemmas.List.{append_assoc, map-append}
 use Rattle.std.proofs.lemmas.List.Elements.{All-nil, All-push, Contains-append_right}
 use Rattle.just_errors.specs.declared.halt.Halt.{Halt}
-use Rattle.just_justfile.specs.Running.{known_of}
+use Rattle.just_justfile.specs.Running.{known_by_tables}
 use Rattle.just_justfile.specs.declared.justfile.Justfile.{Justfile}
 use Rattle.just_names.specs.declared.number.Number.{Number}
 use Rattle.just_parts.specs.Needs.{IsClosed}
@@ -28,7 +28,7 @@ set-asked {used = used} {j = j} (some {set = set} found) sets other = ap (λ s. 
 set-asked all sets other = refl
 
 -- and it is closed
-pub set-closed : {used overridden : Number → Bool} {j : Justfile} {lazy : Bool} {set : NumberSet} → IsSetFor used j lazy set → CanOpen overridden j → IsClosed (known_of j) overridden (in_set set)
+pub set-closed : {used overridden : Number → Bool} {j : Justfile} {lazy : Bool} {set : NumberSet} → IsSetFor used j lazy set → CanOpen overridden j → IsClosed (known_by_tables j) overridden (in_set set)
 set-closed {used = used} {overridden} {j = j} (some {set = set} found) can = closed-set j (IsNeededAtOnce used j) set overridden can.apart found can.held
 set-closed all can = λ from to a b found there reads free inside. refl
 

@@ -1,13 +1,12 @@
 -- The open module of a path, as modules are put in one after another.
 use Rattle.std.proofs.Common.{◌≡◌, ◌∙◌, Bool, true, false, cond, List, [], ◌∷◌, ◌++◌, Option, Some, None, refl, sym, ap}
 use Rattle.std.specs.Option.{option_map, option_or}
-use Rattle.just_ast_expressions.specs.declared.scope.Scope.{Scope}
 use Rattle.just_execution.specs.Scene.{contents_found, contents_of}
 use Rattle.just_execution.specs.declared.scopes.ModuleScope.{ModuleScope}
 use Rattle.just_justfile.specs.declared.justfile.Justfile.{out-Justfile}
 use Rattle.just_paths.specs.contracts.modulepath.ModulepathPartialEq.TheImpl as path_eq
 use Rattle.just_paths.specs.declared.modulepath.Modulepath.{Modulepath}
-use Rattle.just_scopes.specs.Opening.{Handed, Opened, contents_in, hands, opened_at, scope_at}
+use Rattle.just_scopes.specs.Opening.{Handed, Opened, contents_in, opened_at}
 
 abbrev pub has_path : Opened → Modulepath → Bool
 has_path o path = path_eq.ghosts.eq (out-Justfile o.justfile).module_path path
@@ -22,16 +21,9 @@ opened-push path (x ∷ xs) o =
     ap (λ r. option_or r (cond (has_path x path) (Some x) None)) (opened-push path xs o)
     ∙ or-last (has_path o path) o (opened_at path xs) (cond (has_path x path) (Some x) None)
 
-hands-by : (b : Bool) (o : Opened) (before : Option Opened) → (hands (cond b (Some o) before)).scope ≡ cond b o.scope (hands before).scope
-hands-by true o before = refl
-hands-by false o before = refl
-
--- its values
-pub scope-push : (path : Modulepath) (os : List Opened) (o : Opened) → scope_at path (os ++ o ∷ []) ≡ cond (has_path o path) o.scope (scope_at path os)
-scope-push path os o = ap (λ x. (hands x).scope) (opened-push path os o) ∙ hands-by (has_path o path) o (opened_at path os)
-
-pub scope-taken : (path : Modulepath) (os : List Opened) (o : Opened) (b : Bool) (scope : Scope) → has_path o path ≡ b → scope ≡ cond b o.scope (scope_at path os) → scope ≡ scope_at path (os ++ o ∷ [])
-scope-taken path os o b scope is taken = taken ∙ ap (λ c. cond c o.scope (scope_at path os)) (sym is) ∙ sym (scope-push path os o)
+-- so where it is put in or left out
+pub opened-taken : (path : Modulepath) (os : List Opened) (o : Opened) (b : Bool) (found : Option Opened) → has_path o path ≡ b → found ≡ cond b (Some o) (opened_at path os) → found ≡ opened_at path (os ++ o ∷ [])
+opened-taken path os o b found is taken = taken ∙ ap (λ c. cond c (Some o) (opened_at path os)) (sym is) ∙ sym (opened-push path os o)
 
 found-by : (b : Bool) (handed : Handed) (m : ModuleScope) (o : Opened) (before : Option ModuleScope) (opened : Option Opened) → contents_of m ≡ contents_in handed o → contents_found before ≡ option_map (contents_in handed) opened →
     contents_found (cond b (Some m) before) ≡ option_map (contents_in handed) (cond b (Some o) opened)

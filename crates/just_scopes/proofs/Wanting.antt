@@ -6,7 +6,7 @@ use Rattle.std.specs.Map.{values_of}
 use Rattle.std.specs.Option.{option_map_or}
 use Rattle.just_ast_definitions.specs.declared.assignment.Assignment.{Assignment}
 use Rattle.just_graph.proofs.Members.{In, contained, from_map, in_map, is_in}
-use Rattle.just_justfile.specs.Running.{NeedsIn, known_of}
+use Rattle.just_justfile.specs.Running.{NeedsIn, known_by_tables}
 use Rattle.just_justfile.specs.declared.justfile.Justfile.{Justfile, out-Justfile}
 use Rattle.just_name_resolution.proofs.Searching.{not_overridden}
 use Rattle.just_name_resolution.proofs.Sets.{number_itself, one_number, or_left, or_right}
@@ -69,7 +69,7 @@ same-none : (b : Bool) → (b ≡ true → ⊥) → b ≡ false
 same-none true h = absurd (h refl)
 same-none false h = refl
 
-module _ (used : Number → Bool) (j : Justfile) (sorted : IsSorted (out-Justfile j).assignments) (apart : HaveNumbersApart (known_of j)) where
+module _ (used : Number → Bool) (j : Justfile) (sorted : IsSorted (out-Justfile j).assignments) (apart : HaveNumbersApart (known_by_tables j)) where
   abbrev table : List (Text × Assignment)
   table = (out-Justfile j).assignments
 
@@ -89,16 +89,16 @@ module _ (used : Number → Bool) (j : Justfile) (sorted : IsSorted (out-Justfil
   start-begun name a is h = in-filter first (values_of table) a (found_in table name a is) h
 
   -- what is read by the values of free starts is needed
-  read-needed : (name : Text) → IsReadIn (known_of j) (free_values j begun) name → NeedsIn j (IsNeededAtOnce used j) name
+  read-needed : (name : Text) → IsReadIn (known_by_tables j) (free_values j begun) name → NeedsIn j (IsNeededAtOnce used j) name
   read-needed name r =
       let v = from_map (λ (a : Assignment). a.value) r.e (filter (is_free j) begun) (is_in r.e (free_values j begun) r.there) in
       let o = out-filter (is_free j) begun v.0 v.1 in
       let s = begun-start v.0 o.0 in
-      let free = not_overridden seen (known_of j) s.0 v.0 s.1 (not-true (seen v.0.number) o.1) in
-      onward (starts (record { assigned = v.0; is = s.1; starts = s.2 })) free (record { assigned = v.0; is = s.1; reads = subst (λ e. Reads (known_of j) none_hidden e name) v.2 r.reads })
+      let free = not_overridden seen (known_by_tables j) s.0 v.0 s.1 (not-true (seen v.0.number) o.1) in
+      onward (starts (record { assigned = v.0; is = s.1; starts = s.2 })) free (record { assigned = v.0; is = s.1; reads = subst (λ e. Reads (known_by_tables j) none_hidden e name) v.2 r.reads })
 
   -- whatever is needed is a start, or is needed from what these values read
-  split-need : (name : Text) → NeedsIn j (IsNeededAtOnce used j) name → IsNeededAtOnce used j name ⊎ NeedsIn j (IsReadIn (known_of j) (free_values j begun)) name
+  split-need : (name : Text) → NeedsIn j (IsNeededAtOnce used j) name → IsNeededAtOnce used j name ⊎ NeedsIn j (IsReadIn (known_by_tables j) (free_values j begun)) name
   split-need name (starts s) = inl s
   split-need name (onward {name = from} n free reads) = elim (split-need from n) [
     | inl s ↦ inr (starts (record {
@@ -110,14 +110,14 @@ module _ (used : Number → Bool) (j : Justfile) (sorted : IsSorted (out-Justfil
     | inr r ↦ inr (onward r free reads)
   ]
     where
-      unseen : (x : Text) (a : Assignment) → find x table ≡ Some a → overridden_by seen (known_of j) x ≡ false → seen a.number ≡ false
+      unseen : (x : Text) (a : Assignment) → find x table ≡ Some a → overridden_by seen (known_by_tables j) x ≡ false → seen a.number ≡ false
       unseen x a is f = sym (ap (λ o. option_map_or (λ (b : Assignment). seen b.number) o false) is) ∙ f
 
-      read-of : (x y : Text) (a : Assignment) → find x table ≡ Some a → ReadsOn (known_of j) x y → Reads (known_of j) none_hidden a.value y
-      read-of x y a is r = let same : r.assigned ≡ a = cc in subst (λ (b : Assignment). Reads (known_of j) none_hidden b.value y) same r.reads
+      read-of : (x y : Text) (a : Assignment) → find x table ≡ Some a → ReadsOn (known_by_tables j) x y → Reads (known_by_tables j) none_hidden a.value y
+      read-of x y a is r = let same : r.assigned ≡ a = cc in subst (λ (b : Assignment). Reads (known_by_tables j) none_hidden b.value y) same r.reads
 
   -- so the set of both has exactly what is needed
-  pub all-found : (found set : Number → Bool) → AreNeededBy (known_of j) seen (free_values j begun) found →
+  pub all-found : (found set : Number → Bool) → AreNeededBy (known_by_tables j) seen (free_values j begun) found →
       ((n : Number) → set n ≡ (found n || list_any (λ (a : Assignment). same_number n a.number) begun)) → IsFound used j set
   all-found found set needed is n = (
     (λ h. elim (or_cases (found n) (list_any (λ (a : Assignment). same_number n a.number) begun) (sym (is n) ∙ h)) [

@@ -6,7 +6,7 @@ use Rattle.just_ast_expressions.specs.declared.settings.Settings.{Settings}
 use Rattle.just_execution.specs.Leading.{LeadTo}
 use Rattle.just_execution.specs.declared.task.Task.{Task}
 use Rattle.just_justfile.specs.Closed.{StandsIn}
-use Rattle.just_justfile.specs.Running.{IsReadBy, NeedsIn, known_of}
+use Rattle.just_justfile.specs.Running.{IsReadBy, NeedsIn, known_by_tables}
 use Rattle.just_justfile.specs.declared.justfile.Justfile.{Justfile, out-Justfile}
 use Rattle.just_names.specs.Texts.{Text}
 use Rattle.just_names.specs.declared.number.Number.{Number}
@@ -42,7 +42,7 @@ NumberSets = Justfile → Number → Bool
 
 -- of each module that stands in the root, those of exactly the variables that are needed
 abbrev pub AreNeeds : SyntaxAnswers → Justfile → List (Recipe Dependency) → List Task → NumberSets → Type 0
-AreNeeds answers root recipes tops sets = (j : Justfile) → StandsIn root j → (n : Number) → (sets j n ≡ true) ↔ IsNumberIn (known_of j) (IsNeededVariable answers recipes tops j) n
+AreNeeds answers root recipes tops sets = (j : Justfile) → StandsIn root j → (n : Number) → (sets j n ≡ true) ↔ IsNumberIn (known_by_tables j) (IsNeededVariable answers recipes tops j) n
 
 -- what the evaluator is asked for of a module: of a lazy one its set, and else all
 abbrev pub asked : NumberSets → Bool → Justfile → NumberSet
@@ -68,7 +68,7 @@ IsNeededFrom used j = NeedsIn j (IsNeededAtOnce used j)
 
 -- a set has the numbers of exactly that
 abbrev pub IsFound : (Number → Bool) → Justfile → (Number → Bool) → Type 0
-IsFound used j set = (n : Number) → (set n ≡ true) ↔ IsNumberIn (known_of j) (IsNeededFrom used j) n
+IsFound used j set = (n : Number) → (set n ≡ true) ↔ IsNumberIn (known_by_tables j) (IsNeededFrom used j) n
 
 -- of each module that stands in the root, those of exactly the variables that are needed from some numbers
 abbrev pub AreNeedsFrom : (Number → Bool) → Justfile → NumberSets → Type 0

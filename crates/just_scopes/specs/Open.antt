@@ -6,7 +6,7 @@ use Rattle.just_execution.specs.Homes.{IsRead}
 use Rattle.just_execution.specs.Leading.{LeadTo}
 use Rattle.just_execution.specs.declared.task.Task.{Task}
 use Rattle.just_justfile.specs.Closed.{StandsIn}
-use Rattle.just_justfile.specs.Running.{arguments_of, known_of}
+use Rattle.just_justfile.specs.Running.{arguments_of, known_by_tables}
 use Rattle.just_justfile.specs.declared.justfile.Justfile.{Justfile, out-Justfile}
 use Rattle.just_names.specs.Texts.{Text}
 use Rattle.just_names.specs.declared.number.Number.{Number}
@@ -36,7 +36,7 @@ whose_placed p = (p.justfile, p.lazy)
 
 -- whatever a recipe of an open module reads is bound in it
 abbrev pub IsServedBy : SyntaxAnswers → Recipe Dependency → Opened → Type 0
-IsServedBy answers r o = All (IsRead (known_of o.justfile) o.scope) (scopes_of arguments_of answers (out-Justfile o.justfile).settings r)
+IsServedBy answers r o = All (IsRead (known_by_tables o.justfile) o.scope) (scopes_of arguments_of answers (out-Justfile o.justfile).settings r)
 
 -- Once they are open: they are the modules of the root, in order, each lazy where it or one above sets so; in a lazy one exactly what is needed is bound, and in another all; each recipe to which tasks lead has its module among them, and whatever it reads is bound there.
 pub record AreOpenModules (answers : SyntaxAnswers) (root : Justfile) (recipes : List (Recipe Dependency)) (tops : List Task) (opened : List Opened) : Type 0 where

@@ -77,16 +77,17 @@ abbrev pub around : List Opened → Option ℕ → Inherited
 around opened None = nothing
 around opened (Some place) = hands (slice_get opened place)
 
--- the folder for which dotenv files are asked, which is that of bodies: the module's, and of the root the configuration's, where it has one
+-- the folder for which dotenv files are asked and in which a program runs in place of recipes, which is that of bodies: the module's, and of the root the configuration's, where it has one
 abbrev pub folder_of : Option Text → Justfile → Text
-folder_of configured j = body.folder_of (out-Justfile j).module_path.components configured (out-Justfile j).working_directory
+folder_of configured j = body.module_folder (out-Justfile j).module_path.components configured (out-Justfile j).working_directory
 
--- its own pairs stand behind those around it; no file is asked for where the front says so
+-- a module's own pairs stand behind those of the modules around it
 abbrev pub pairs_answered : List EnvironmentPair → Answer → Interaction (List EnvironmentPair)
 pairs_answered before (Paired pairs) = Return (before ++ pairs)
 pairs_answered before (Refused message) = Fail (Failed (Dotenv (record { message = message })))
 pairs_answered before _ = Fail Memory
 
+-- the dotenv pairs of a module; none are asked for where the configuration loads none
 abbrev pub dotenv_steps : ConfigContents → Justfile → List EnvironmentPair → Interaction (List EnvironmentPair)
 dotenv_steps config j before =
     cond config.load_dotenv (Ask (ToHost (entry.Dotenv (out-Justfile j).module_path (folder_of config.working_directory j))) (pairs_answered before)) (Return [])

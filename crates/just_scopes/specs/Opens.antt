@@ -6,7 +6,7 @@ use Rattle.std.specs.HashSet.{HashSet, contains}
 use Rattle.std.specs.List.{Contains}
 use Rattle.std.specs.Option.{option_map}
 use Rattle.just_errors.specs.declared.halt.Halt.{Halt}
-use Rattle.just_justfile.specs.Running.{known_of}
+use Rattle.just_justfile.specs.Running.{known_by_tables}
 use Rattle.just_justfile.specs.declared.justfile.Justfile.{Justfile, out-Justfile}
 use Rattle.just_names.specs.Index.{texts_of_names}
 use Rattle.just_names.specs.Texts.{Text}
@@ -41,8 +41,8 @@ AsksHostAlone host steps before later result =
 
 -- A module may be opened: its variables have an order and numbers of their own, and what the analysis saw as overridden is so in the run.
 pub record CanOpen (overridden : Number → Bool) (j : Justfile) : Type 0 where
-  pub ordered : IsEvaluationOrder (known_of j) (texts_of_names (out-Justfile j).evaluation_order)
-  pub apart : HaveNumbersApart (known_of j)
+  pub ordered : IsEvaluationOrder (known_by_tables j) (texts_of_names (out-Justfile j).evaluation_order)
+  pub apart : HaveNumbersApart (known_by_tables j)
   pub held : (n : Number) → has_number (out-Justfile j).overridden n ≡ true → overridden n ≡ true
 
 -- the numbers of a set that may be there

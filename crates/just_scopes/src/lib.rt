@@ -9,5 +9,5 @@ mod opening;
 mod scopes;
 mod uses;
 
-pub use opening::{OpenedModule, open_lazily, open_modules};
-pub use scopes::{scope_at, scopes_of};
+pub use opening::{OpenedModule, folder_for, open_lazily, open_modules};
+pub use scopes::{opened_at, scope_at, scopes_of};

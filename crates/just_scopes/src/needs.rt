@@ -1,7 +1,7 @@
 //! The variables that a lazy module is asked for.
 ghost use Rattle.std.specs.Prelude.{◌≡◌, ◌||◌, map, filter, IfOk};
 ghost use Rattle.std.specs.HashSet.{contains};
-ghost use Rattle.just_justfile.specs.Running.{known_of};
+ghost use Rattle.just_justfile.specs.Running.{known_by_tables};
 ghost use Rattle.just_justfile.specs.declared.justfile.Justfile.{out-Justfile};
 ghost use Rattle.just_parts.specs.Needs.{HaveNumbersApart, same_number};
 ghost use Rattle.just_scopes.specs.Need.{IsFound, is_start};
@@ -86,7 +86,7 @@ pub(crate) fn wanted_numbers<'src>(
     used: &HashSet<Number>,
     module: &Justfile<'src>,
 ) -> Result<HashSet<Number>, AllocError>
-    requires { HaveNumbersApart (known_of «module».now) }
+    requires { HaveNumbersApart (known_by_tables «module».now) }
     ensures { IfOk result (λ set. IsFound (contains same_number used.now) «module».now (contains same_number set)) }
 {
     let starts = starts_of(alloc, used, module)?;

@@ -5,7 +5,7 @@ ghost use Rattle.std.specs.HashSet.{contains};
 ghost use Rattle.std.specs.List.{All, Contains};
 ghost use Rattle.just_execution.specs.TaskInteractions.{AsksAlone};
 ghost use Rattle.just_execution.specs.Pairs.{AllBelow};
-ghost use Rattle.just_justfile.specs.Running.{CanRun, HoldsOverridden, TellsBareLines, known_of};
+ghost use Rattle.just_justfile.specs.Running.{CanRun, HoldsOverridden, TellsBareLines, known_by_tables};
 ghost use Rattle.just_justfile.specs.declared.justfile.Justfile.{out-Justfile};
 ghost use Rattle.just_parts.specs.Evaluator.{Binds};
 ghost use Rattle.just_parts.specs.Needs.{HaveNumbersApart, IsClosed, has_number, same_number};
@@ -83,8 +83,8 @@ fn handed_on<'src>(
     })
 }
 
-// The folder for which the dotenv files of a module are asked.
-fn folder_for<'a>(config: &'a Config, justfile: &'a Justfile) -> &'a Text
+/// The folder of a module, for which its dotenv files are asked: its own, and of the root the configuration's, where it has one.
+pub fn folder_for<'a>(config: &'a Config, justfile: &'a Justfile) -> &'a Text
     ensures { result.now ≡ folder_of config.now.working_directory justfile.now }
 {
     if justfile.module_path.components.is_empty() {
@@ -144,7 +144,7 @@ fn ask_scope<'src, E: Evaluation>(
     evaluation: &mut E,
 ) -> Result<Scope<'src>, Halt<'src>>
     requires can { CanOpen (has_number overrides.now) justfile.now }
-    requires closed { IsClosed (known_of justfile.now) (has_number overrides.now) (in_set (set_of set)) }
+    requires closed { IsClosed (known_by_tables justfile.now) (has_number overrides.now) (in_set (set_of set)) }
     ensures keeps { KeepsPromises (E.promised evaluation.old) (E.promised evaluation.new) }
     ensures took { let steps = scope_steps (handed_of config.now overrides.now) justfile.now (set_of set.entry) parent.now dotenv.now in
         AsksAlone (E.promised evaluation.old) steps (E.requests evaluation.old) (E.requests evaluation.new) result }
@@ -165,7 +165,7 @@ fn set_for(
     used: &HashSet<Number>,
     module: &PlacedModule,
 ) -> Result<Option<Shared<HashSet<Number>>>, AllocError>
-    requires { HaveNumbersApart (known_of «module».now.justfile.now) }
+    requires { HaveNumbersApart (known_by_tables «module».now.justfile.now) }
     ensures { IfOk result (λ set. IsSetFor (contains same_number used.now) «module».now.justfile.now «module».now.is_lazy (set_in set)) }
 {
     if !module.is_lazy {

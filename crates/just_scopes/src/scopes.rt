@@ -1,9 +1,9 @@
 //! What recipes run in, once the modules are open.
-ghost use Rattle.std.specs.Prelude.{◌≡◌, map, IfOk};
+ghost use Rattle.std.specs.Prelude.{◌≡◌, map, option_map, IfOk};
 ghost use Rattle.just_execution.specs.Homes.{AllHaveModuleScope};
 ghost use Rattle.just_execution.specs.Scene.{scene_in};
 ghost use Rattle.just_scopes.specs.Open.{AreOpenModules};
-ghost use Rattle.just_scopes.specs.Opening.{front_of, handed_of, opened_of, scene_of, scope_at};
+ghost use Rattle.just_scopes.specs.Opening.{front_of, handed_of, opened_at, opened_of, scene_of, scope_at};
 ghost use Rattle.just_scopes.specs.Scoped.{AreModulesOf};
 
 use crate::context::context_of;
@@ -59,17 +59,30 @@ pub fn scopes_of<'run, 'src, S: Syntax>(
     })
 }
 
+/// The open module of a path, and none where there is none.
+pub fn opened_at<'run, 'src>(
+    opened: Vec<OpenedModule<'run, 'src>>,
+    path: &Modulepath,
+) -> Option<OpenedModule<'run, 'src>>
+    ensures { option_map opened_of result ≡ opened_at path.now (map opened_of opened.entry.items) }
+{
+    let mut found = None;
+    for module in opened {
+        if module.justfile.module_path == *path {
+            found = Some(module);
+        }
+    }
+    found
+}
+
 /// The values of the open module of a path, and none where there is none.
 pub fn scope_at<'src>(opened: Vec<OpenedModule<'_, 'src>>, path: &Modulepath) -> Scope<'src>
     ensures { result ≡ scope_at path.now (map opened_of opened.entry.items) }
 {
-    let mut scope = Scope {
-        bindings: Chain::new(),
-    };
-    for module in opened {
-        if module.justfile.module_path == *path {
-            scope = module.scope;
-        }
+    match opened_at(opened, path) {
+        Some(module) => module.scope,
+        None => Scope {
+            bindings: Chain::new(),
+        },
     }
-    scope
 }

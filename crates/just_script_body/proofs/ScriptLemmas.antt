@@ -11,17 +11,17 @@ use Rattle.just_names.specs.Texts.{Text}
 use Rattle.just_run_layers.specs.Host.{Answer}
 use Rattle.just_run_layers.specs.Interactions.{Return, Log, Question, Interaction, HasTrace, and_then}
 use Rattle.just_run_layers.proofs.InteractionLemmas.{then-assoc, then-give, then-same, took-out}
-use Rattle.just_recipe_body.specs.Body.{BodyContents, given, line_steps}
+use Rattle.just_recipe_body.specs.Body.{BodyContents, concluded, line_steps}
 use Rattle.just_recipe_body.proofs.StepEnds.{took-given, took-refused}
 use Rattle.just_script_body.specs.Executors.{IsOrMemory}
 use Rattle.just_script_body.specs.ScriptBody.{texts_steps}
 
 module _ (p : Question → Option Answer) where
   -- a result, or want of memory
-  pub took-result : {A : Type 0} (old : Log) (o : Result A RunError) (r : Result A Halt) → IsOrMemory o r → HasTrace p (given o) old old r
+  pub took-result : {A : Type 0} (old : Log) (o : Result A RunError) (r : Result A Halt) → IsOrMemory o r → HasTrace p (concluded o) old old r
   took-result old o (Ok x) e = took-given p old x o e
   took-result old o (Err (Failed x)) e = took-refused p old x o e
-  took-result old o (Err Memory) e = took-out p (given o) old old refl
+  took-result old o (Err Memory) e = took-out p (concluded o) old old refl
   took-result old o (Err Exhausted) e = absurd e
 
   -- the steps of a case

@@ -13,7 +13,7 @@ use Rattle.just_parts.specs.Syntax.{SyntaxAnswers}
 use Rattle.just_parts.specs.declared.layers.shebang.Shebang.{Shebang}
 use Rattle.just_run_layers.specs.declared.calls.Executor.{Executor}
 use Rattle.just_run_layers.specs.declared.calls.Executor.TheVariants as executor
-use Rattle.just_recipe_body.specs.Body.{BodyContents, name_of}
+use Rattle.just_recipe_body.specs.Body.{BodyContents, body_name}
 use Rattle.just_script_body.specs.ScriptAttributes.{script_of}
 
 -- an interpreter of quoted texts, by what stands between their quotes
@@ -42,9 +42,9 @@ command_of interpreter = executor.Command interpreter.command interpreter.argume
 abbrev pub named : Shebang → Executor
 named shebang = executor.Shebang shebang.interpreter shebang.argument
 
-abbrev pub named_by : BodyContents → Text → Option Shebang → Result Executor RunError
-named_by b text (Some shebang) = Ok (named shebang)
-named_by b text None = Err (run.InvalidShebang (name_of b) text)
+abbrev pub named_in_shebang : BodyContents → Text → Option Shebang → Result Executor RunError
+named_in_shebang b text (Some shebang) = Ok (named shebang)
+named_in_shebang b text None = Err (run.InvalidShebang (body_name b) text)
 
 -- the text of the first line, where that is a shebang line
 abbrev pub shebang_text : SyntaxAnswers → List Line → List Text → Option Text
@@ -53,7 +53,7 @@ shebang_text syntax _ _ = None
 
 -- what it names, or else the interpreter of the settings
 abbrev pub executor_by : BodyContents → Option Text → Result Executor RunError
-executor_by b (Some text) = named_by b text (b.syntax.shebang text)
+executor_by b (Some text) = named_in_shebang b text (b.syntax.shebang text)
 executor_by b None = Ok (command_of (set_interpreter b))
 
 -- where an attribute says that the recipe is a script, no line is looked at

@@ -12,7 +12,7 @@ use Rattle.just_run_layers.specs.declared.host.Entry.TheVariants.{Script}
 use Rattle.just_run_layers.specs.Host.{Answer, Ran}
 use Rattle.just_run_layers.specs.Interactions.{Ask, Fail, Return, Interaction, ToHost, and_then}
 use Rattle.just_recipe_body.specs.Attributes.{continues_on, prints_message, takes_positional_arguments}
-use Rattle.just_recipe_body.specs.Body.{BodyContents, directory_steps, environment_steps, format_steps, given, is_mute, line_steps, name_of, show_steps, stamped, time_steps, with_pairs}
+use Rattle.just_recipe_body.specs.Body.{BodyContents, directory_steps, environment_steps, format_steps, concluded, is_mute, line_steps, body_name, show_steps, stamped, time_steps, with_pairs}
 use Rattle.just_recipe_body.specs.Judging.{judged, no_marks}
 use Rattle.just_recipe_body.specs.declared.judgement.Program.TheVariants as program
 use Rattle.just_recipe_body.specs.declared.judgement.Teller.{Teller}
@@ -22,10 +22,10 @@ use Rattle.just_script_body.specs.ScriptAttributes.{extension_of}
 -- the name of the recipe is shown behind the time, where there is one
 abbrev pub show_time_steps : BodyContents → Option Text → Interaction (Unit {0})
 show_time_steps b None = Return tt
-show_time_steps b (Some time) = show_steps (stamped time (name_of b))
+show_time_steps b (Some time) = show_steps (stamped time (body_name b))
 
-abbrev pub begin_steps : BodyContents → Interaction (Unit {0})
-begin_steps b = and_then (format_steps b) (λ format. and_then (time_steps format) (show_time_steps b))
+abbrev pub heading_steps : BodyContents → Interaction (Unit {0})
+heading_steps b = and_then (format_steps b) (λ format. and_then (time_steps format) (show_time_steps b))
 
 -- lines are evaluated one after another, each by itself
 abbrev pub texts_steps : BodyContents → List Line → Interaction (List Text)
@@ -54,7 +54,7 @@ positional_of b = cond (takes_positional_arguments b.recipe b.context.settings) 
 
 abbrev pub script_call : BodyContents → Executor → List Text → Option Text → List EnvironmentChange → ScriptCall
 script_call b executor texts directory changes = record {
-  recipe = name_of b;
+  recipe = body_name b;
   executor = executor;
   lines = texts;
   extension = extension_of b.recipe.attributes;
@@ -65,11 +65,11 @@ script_call b executor texts directory changes = record {
 
 -- what errors tell: no line
 abbrev pub teller_of : BodyContents → Teller
-teller_of b = record { recipe = name_of b; line_number = None; print_message = prints_message b.recipe b.context.settings }
+teller_of b = record { recipe = body_name b; line_number = None; print_message = prints_message b.recipe b.context.settings }
 
 -- what the answer comes to; an answer of another kind does not come up
 abbrev pub script_answered : BodyContents → Answer → Interaction (Unit {0})
-script_answered b (Ran answer) = and_then (given (judged program.Script (teller_of b) (continues_on b.recipe) no_marks answer)) (λ next. Return tt)
+script_answered b (Ran answer) = and_then (concluded (judged program.Script (teller_of b) (continues_on b.recipe) no_marks answer)) (λ next. Return tt)
 script_answered b _ = Fail Memory
 
 abbrev pub script_call_steps : BodyContents → ScriptCall → Interaction (Unit {0})
@@ -87,16 +87,16 @@ shown_call_steps b executor texts directory =
 abbrev pub executed_steps : BodyContents → List Text → Executor → Interaction (Unit {0})
 executed_steps b texts executor = and_then (directory_steps b) (shown_call_steps b executor texts)
 
-abbrev pub run_steps : BodyContents → List Text → Interaction (Unit {0})
-run_steps b texts = and_then (given (executor_of b texts)) (executed_steps b texts)
+abbrev pub script_run_steps : BodyContents → List Text → Interaction (Unit {0})
+script_run_steps b texts = and_then (concluded (executor_of b texts)) (executed_steps b texts)
 
 -- nothing runs in a dry run
 abbrev pub unless_dry_steps : BodyContents → List Text → Interaction (Unit {0})
-unless_dry_steps b texts = cond b.context.config.dry_run (Return tt) (run_steps b texts)
+unless_dry_steps b texts = cond b.context.config.dry_run (Return tt) (script_run_steps b texts)
 
 abbrev pub shown_steps : BodyContents → List Text → Interaction (Unit {0})
 shown_steps b texts = and_then (show_if_steps (is_shown b) texts) (λ _. unless_dry_steps b texts)
 
 -- A script body: the time with the name of the recipe, all its lines, and then the script.
 abbrev pub script_steps : BodyContents → Interaction (Unit {0})
-script_steps b = and_then (begin_steps b) (λ _. and_then (texts_steps b b.recipe.body) (shown_steps b))
+script_steps b = and_then (heading_steps b) (λ _. and_then (texts_steps b b.recipe.body) (shown_steps b))

@@ -121,7 +121,7 @@ fn named_by<'a, 'run, 'src, S: Syntax>(
     text: &Text,
 ) -> Result<Executor, Halt<'src>>
     ensures { let contents = contents_of (S.answers body.now.syntax.now) body.now in
-        IsOrMemory (spec.named_by contents text.now (contents.syntax.shebang text.now)) result }
+        IsOrMemory (spec.named_in_shebang contents text.now (contents.syntax.shebang text.now)) result }
 {
     match body.syntax.shebang(text.as_str()) {
         Some(shebang) => Ok(named(alloc, &shebang)?),

@@ -58,7 +58,7 @@ fn begin<'a, 'run, 'src, S: Syntax, E: Evaluation, H: Host>(
     ensures keeps_host { KeepsPromises (H.promised host.old) (H.promised host.new) }
     ensures took { let first = log_of (H.entries host.old) (E.requests evaluation.old) in
         let last = log_of (H.entries host.new) (E.requests evaluation.new) in
-        let steps = spec.begin_steps (contents_of (S.answers body.now.syntax.now) body.now) in
+        let steps = spec.heading_steps (contents_of (S.answers body.now.syntax.now) body.now) in
         HasTrace (both (E.promised evaluation.old) (H.promised host.old)) steps first last result }
 {
     let format = ask_format(alloc, body, evaluation)?;
@@ -196,7 +196,7 @@ fn run_texts<'a, 'run, 'src, S: Syntax, E: Evaluation, H: Host>(
     ensures keeps_host { KeepsPromises (H.promised host.old) (H.promised host.new) }
     ensures took { let first = log_of (H.entries host.old) (E.requests evaluation.old) in
         let last = log_of (H.entries host.new) (E.requests evaluation.new) in
-        let steps = spec.run_steps (contents_of (S.answers body.now.syntax.now) body.now) texts in
+        let steps = spec.script_run_steps (contents_of (S.answers body.now.syntax.now) body.now) texts in
         HasTrace (both (E.promised evaluation.old) (H.promised host.old)) steps first last result }
 {
     let executor = executor_of(alloc, body, &texts)?;

@@ -18,7 +18,7 @@ use Rattle.just_run_layers.specs.Interactions.{Return, Log, Question, Interactio
 use Rattle.just_run_layers.proofs.InteractionLemmas.{took-called, took-give}
 use Rattle.just_recipe_body.specs.Body.{BodyContents, show_steps}
 use Rattle.just_recipe_body.specs.Covering.{IsLineCovered}
-use Rattle.just_shell_body.specs.Lines.{TextBeginsGroup, IsGroupCovered, command_of, group_command_steps, groups, is_skipped, text_steps}
+use Rattle.just_shell_body.specs.Lines.{TextBeginsGroup, IsGroupCovered, command_of_group, group_command_steps, groups, is_skipped, lines_text_steps}
 use Rattle.just_shell_body.specs.ShellBody.{call_steps, group_steps, groups_steps, is_shown, lines_steps, show_command_steps, shown_command, unless_dry_steps, unless_ended}
 use Rattle.just_recipe_body.specs.declared.body.Preparation.{Preparation}
 use Rattle.just_recipe_body.specs.declared.judgement.Next.{Next}
@@ -47,16 +47,16 @@ module _ (p : Question → Option Answer) (b : BodyContents) where
   pub of-skipped : (line : Line) (lines whole : List Line) (old : Log) → whole ≡ line ∷ lines → is_skipped b.syntax b.context.settings line ≡ true → HasTrace p (group_command_steps b whole) old old (Ok None)
   of-skipped line lines whole old e h =
       subst (λ ls. HasTrace p (group_command_steps b ls) old old (Ok None)) (sym e)
-      (subst (λ s. HasTrace p s old old (Ok None)) (sym (cond-true (is_skipped b.syntax b.context.settings line) (Return None) (and_then (text_steps b false [] (line ∷ lines)) (λ text. Return (command_of (b.syntax.sigils line b.context.settings) line lines text))) h))
+      (subst (λ s. HasTrace p s old old (Ok None)) (sym (cond-true (is_skipped b.syntax b.context.settings line) (Return None) (and_then (lines_text_steps b false [] (line ∷ lines)) (λ text. Return (command_of_group (b.syntax.sigils line b.context.settings) line lines text))) h))
       (took-give p old None))
 
   pub of-group : (line : Line) (lines whole : List Line) (old new : Log) (r : Result (Option GroupCommand) Halt) → whole ≡ line ∷ lines → is_skipped b.syntax b.context.settings line ≡ false →
-      HasTrace p (and_then (text_steps b false [] whole) (λ text. Return (command_of (b.syntax.sigils line b.context.settings) line lines text))) old new r → HasTrace p (group_command_steps b whole) old new r
+      HasTrace p (and_then (lines_text_steps b false [] whole) (λ text. Return (command_of_group (b.syntax.sigils line b.context.settings) line lines text))) old new r → HasTrace p (group_command_steps b whole) old new r
   of-group line lines whole old new r e h t =
-      let next : Text → Interaction (Option GroupCommand) = λ text. Return (command_of (b.syntax.sigils line b.context.settings) line lines text) in
+      let next : Text → Interaction (Option GroupCommand) = λ text. Return (command_of_group (b.syntax.sigils line b.context.settings) line lines text) in
       subst (λ ls. HasTrace p (group_command_steps b ls) old new r) (sym e)
-      (subst (λ s. HasTrace p s old new r) (sym (cond-false (is_skipped b.syntax b.context.settings line) (Return None) (and_then (text_steps b false [] (line ∷ lines)) next) h))
-      (subst (λ ls. HasTrace p (and_then (text_steps b false [] ls) next) old new r) e t))
+      (subst (λ s. HasTrace p s old new r) (sym (cond-false (is_skipped b.syntax b.context.settings line) (Return None) (and_then (lines_text_steps b false [] (line ∷ lines)) next) h))
+      (subst (λ ls. HasTrace p (and_then (lines_text_steps b false [] ls) next) old new r) e t))
 
   -- the first group, and the others; and no more
   pub one-group : (prep : Preparation) (lines group others : List Line) (old new : Log) (r : Result (Unit {0}) Halt) →

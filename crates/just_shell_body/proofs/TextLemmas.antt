@@ -15,7 +15,7 @@ use Rattle.just_run_layers.specs.LineTexts.{AgreesWith, BeginsPlain, EndsWithBac
 use Rattle.just_run_layers.specs.Interactions.{Return, Log, Question, HasTrace, and_then}
 use Rattle.just_run_layers.specs.Host.{Answer}
 use Rattle.just_recipe_body.specs.Body.{BodyContents, line_steps}
-use Rattle.just_shell_body.specs.Lines.{TextBeginsGroup, text_steps, trimmed}
+use Rattle.just_shell_body.specs.Lines.{TextBeginsGroup, lines_text_steps, trimmed}
 
 -- a text that begins so begins so with more after it
 pub plain-append : (count : ℕ) (text more : Text) → BeginsPlain count text → BeginsPlain count (text ++ more)
@@ -106,8 +106,8 @@ drop-none (suc i) (x ∷ xs) h = drop-none i xs (omega (arith, h))
 
 module _ (p : Question → Option Answer) (b : BodyContents) where
   pub one-line : (continued : Bool) (text : Text) (i : ℕ) (lines : List Line) (line : Line) (old new : Log) (r : Result Text Halt) → i < length lines → line ≡ get_or lines i line →
-      HasTrace p (and_then (line_steps b line continued) (λ part. text_steps b true (text ++ trimmed (b.syntax.is_continuation line) part) (drop (i + 1) lines))) old new r → HasTrace p (text_steps b continued text (drop i lines)) old new r
-  one-line continued text i lines line old new r h e t = subst (λ ls. HasTrace p (text_steps b continued text ls) old new r) (sym (drop-one i lines line h e)) t
+      HasTrace p (and_then (line_steps b line continued) (λ part. lines_text_steps b true (text ++ trimmed (b.syntax.is_continuation line) part) (drop (i + 1) lines))) old new r → HasTrace p (lines_text_steps b continued text (drop i lines)) old new r
+  one-line continued text i lines line old new r h e t = subst (λ ls. HasTrace p (lines_text_steps b continued text ls) old new r) (sym (drop-one i lines line h e)) t
 
-  pub no-lines : (continued : Bool) (text : Text) (i : ℕ) (lines : List Line) (old new : Log) (r : Result Text Halt) → length lines ≤ i → HasTrace p (Return text) old new r → HasTrace p (text_steps b continued text (drop i lines)) old new r
-  no-lines continued text i lines old new r h t = subst (λ ls. HasTrace p (text_steps b continued text ls) old new r) (sym (drop-none i lines h)) t
+  pub no-lines : (continued : Bool) (text : Text) (i : ℕ) (lines : List Line) (old new : Log) (r : Result Text Halt) → length lines ≤ i → HasTrace p (Return text) old new r → HasTrace p (lines_text_steps b continued text (drop i lines)) old new r
+  no-lines continued text i lines old new r h t = subst (λ ls. HasTrace p (lines_text_steps b continued text ls) old new r) (sym (drop-none i lines h)) t

@@ -16,11 +16,11 @@ use Rattle.just_recipe_body.specs.Covering.{IsLineCovered}
 use Rattle.just_recipe_body.specs.Judging.{marks_of, number_from_one}
 use Rattle.just_shell_body.specs.declared.lines.GroupCommand.{GroupCommand}
 
--- Lines cut into groups, where some lines of the first one are there: a group ends with a line that does not go on, and a comment that begins a group is one of its own where comments are ignored.
 abbrev pub is_none : {A : Type 0} → List A → Bool
 is_none [] = true
 is_none (x ∷ xs) = false
 
+-- Lines cut into groups, where some lines of the first one are there: a group ends with a line that does not go on, and a comment that begins a group is one of its own where comments are ignored.
 abbrev pub groups_after : SyntaxAnswers → Settings → List Line → List Line → List (List Line)
 groups_after syntax settings [] [] = []
 groups_after syntax settings (first ∷ more) [] = (first ∷ more) ∷ []
@@ -41,10 +41,10 @@ abbrev pub trimmed : Bool → Text → Text
 trimmed continues text = cond continues (take (length text - 1) text) text
 
 -- the joined text of lines, after a text
-abbrev pub text_steps : BodyContents → Bool → Text → List Line → Interaction Text
-text_steps b continued text [] = Return text
-text_steps b continued text (line ∷ lines) =
-    and_then (line_steps b line continued) (λ part. text_steps b true (text ++ trimmed (b.syntax.is_continuation line) part) lines)
+abbrev pub lines_text_steps : BodyContents → Bool → Text → List Line → Interaction Text
+lines_text_steps b continued text [] = Return text
+lines_text_steps b continued text (line ∷ lines) =
+    and_then (line_steps b line continued) (λ part. lines_text_steps b true (text ++ trimmed (b.syntax.is_continuation line) part) lines)
 
 -- the number of the last line
 abbrev pub last_number : ℕ → List Line → ℕ
@@ -57,15 +57,15 @@ command_said sigils line lines [] = None
 command_said sigils line lines (byte ∷ bytes) =
     Some (record { text = byte ∷ bytes; marks = marks_of sigils; line_number = number_from_one (last_number line.number lines) })
 
-abbrev pub command_of : List Sigil → Line → List Line → Text → Option GroupCommand
-command_of sigils line lines text = command_said sigils line lines (drop (length sigils) text)
+abbrev pub command_of_group : List Sigil → Line → List Line → Text → Option GroupCommand
+command_of_group sigils line lines text = command_said sigils line lines (drop (length sigils) text)
 
 -- A group of lines: it is skipped, or its lines are evaluated one after another, and come to a command or none.
 abbrev pub group_command_steps : BodyContents → List Line → Interaction (Option GroupCommand)
 group_command_steps b [] = Return None
 group_command_steps b (line ∷ lines) =
     cond (is_skipped b.syntax b.context.settings line) (Return None)
-    (and_then (text_steps b false [] (line ∷ lines)) (λ text. Return (command_of (b.syntax.sigils line b.context.settings) line lines text)))
+    (and_then (lines_text_steps b false [] (line ∷ lines)) (λ text. Return (command_of_group (b.syntax.sigils line b.context.settings) line lines text)))
 
 -- for the private functions: what the lines of a group read is bound where it is not skipped
 abbrev pub IsGroupCovered : SyntaxAnswers → Settings → Known → Scope → List Line → Type 0

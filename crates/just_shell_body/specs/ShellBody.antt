@@ -13,7 +13,7 @@ use Rattle.just_run_layers.specs.declared.host.Entry.TheVariants.{Shell}
 use Rattle.just_run_layers.specs.Host.{Answer, Ran}
 use Rattle.just_run_layers.specs.Interactions.{Ask, Fail, Return, Interaction, ToHost, and_then}
 use Rattle.just_recipe_body.specs.Attributes.{continues_on, is_no_quiet, prints_message, takes_positional_arguments}
-use Rattle.just_recipe_body.specs.Body.{BodyContents, environment_steps, given, is_loquacious, is_mute, name_of, prepare_steps, show_steps, stamped, time_steps, with_pairs}
+use Rattle.just_recipe_body.specs.Body.{BodyContents, environment_steps, concluded, is_loquacious, is_mute, body_name, prepare_steps, show_steps, stamped, time_steps, with_pairs}
 use Rattle.just_recipe_body.specs.Judging.{judged}
 use Rattle.just_shell_body.specs.Lines.{group_command_steps, groups}
 use Rattle.just_recipe_body.specs.declared.body.Preparation.{Preparation}
@@ -54,7 +54,7 @@ abbrev pub shell_of : BodyContents → Interpreter Text
 shell_of b = unwrap_or b.context.settings.shell usual_shell
 
 abbrev pub positional_of : BodyContents → Option Positional
-positional_of b = cond (takes_positional_arguments b.recipe b.context.settings) (Some (record { recipe = name_of b; texts = b.positional })) None
+positional_of b = cond (takes_positional_arguments b.recipe b.context.settings) (Some (record { recipe = body_name b; texts = b.positional })) None
 
 abbrev pub shell_call : BodyContents → Option Text → Text → List EnvironmentChange → ShellCall
 shell_call b directory command changes = record {
@@ -68,11 +68,11 @@ shell_call b directory command changes = record {
 
 -- what errors tell of a command
 abbrev pub teller_of : BodyContents → GroupCommand → Teller
-teller_of b command = record { recipe = name_of b; line_number = command.line_number; print_message = prints_message b.recipe b.context.settings }
+teller_of b command = record { recipe = body_name b; line_number = command.line_number; print_message = prints_message b.recipe b.context.settings }
 
 -- what the answer of the shell comes to; an answer of another kind does not come up
 abbrev pub shell_answered : BodyContents → GroupCommand → Answer → Interaction Next
-shell_answered b command (Ran answer) = given (judged program.Shell (teller_of b command) (continues_on b.recipe) command.marks answer)
+shell_answered b command (Ran answer) = concluded (judged program.Shell (teller_of b command) (continues_on b.recipe) command.marks answer)
 shell_answered b command _ = Fail Memory
 
 abbrev pub shell_call_steps : BodyContents → GroupCommand → ShellCall → Interaction Next

@@ -81,7 +81,7 @@ fn ask_text<'a, 'run, 'src, S: Syntax, E: Evaluation>(
     requires covered { All (IsLineCovered (module_of body.now.context.now) body.now.scope.now) lines.now }
     ensures begins { IfOk result (TextBeginsGroup (S.answers body.now.syntax.now) body.now.context.now.settings.now lines.now) }
     ensures keeps { KeepsPromises (E.promised evaluation.old) (E.promised evaluation.new) }
-    ensures took { let steps = spec.text_steps (contents_of (S.answers body.now.syntax.now) body.now) false [] lines.now in
+    ensures took { let steps = spec.lines_text_steps (contents_of (S.answers body.now.syntax.now) body.now) false [] lines.now in
         AsksEvaluator (E.promised evaluation.old) steps (E.requests evaluation.old) (E.requests evaluation.new) result }
 {
     let mut text = String::new(alloc);

@@ -11,7 +11,7 @@ use Rattle.just_errors.specs.declared.switch.Switch.{Switch}
 use Rattle.just_tail.specs.Words.{Words}
 use Rattle.just_tail.specs.Options.{place}
 use Rattle.just_tail.specs.Pieces.{OptionName, long, cluster, Supplied, nothing, equals, next, Piece, positional, dashes, option, with_value, option_word, value_of, next_of, words_of, switches_of, has_equals, IsOptionName, HasOptionName, is_dashed, IsNameless}
-use Rattle.just_tail.specs.Steps.{Step, use_switch, give, steps_of, placed, is_open, group_of, Need, unknown, duplicate, no_text, some_text, need, FitsNeed, StepsFollow, PiecesFollow, Ends}
+use Rattle.just_tail.specs.Steps.{Step, use_switch, give, steps_of_piece, positionals_among, is_open, group_of, Need, unknown, duplicate, no_text, some_text, need, FitsNeed, StepsFollow, PiecesFollow, Ends}
 use Rattle.just_tail.specs.Cause.{ArgumentFault, invalid_option, unknown_option, duplicate_option, flag_with_value, option_missing_value}
 use Rattle.just_tail.specs.Tail.{IsTail, RefusesSwitch, given_nothing, Refused, BadOption, NoTail}
 use Rattle.just_tail.specs.Checks.{CountFault, refusal, TakesArguments, StopsTail}
@@ -168,11 +168,11 @@ Utf8 = AllByRecursion IsUtf8
 abbrev Onward : List Parameter → List Step → Words → Type 0
 Onward ps before words =
     Ends ps before words
-    ⊎ (((x : Piece) × (rest : Words) × (words ≡ words_of x ++ rest) × HasOptionName x × StepsFollow ps before (steps_of x) × (length rest < length words) × Utf8 rest)
+    ⊎ (((x : Piece) × (rest : Words) × (words ≡ words_of x ++ rest) × HasOptionName x × StepsFollow ps before (steps_of_piece x) × (length rest < length words) × Utf8 rest)
     ⊎ ((cause : ArgumentFault) × BadOption ps before words cause))
 
 plain_onward : (ps : List Parameter) (before : List Step) (w : Text) (ws : Words) → Utf8 ws → (is_open ps before && is_dashed w) ≡ false →
-    (o : Option ℕ) → place ps (placed before) ≡ o → Onward ps before (w ∷ ws)
+    (o : Option ℕ) → place ps (positionals_among before) ≡ o → Onward ps before (w ∷ ws)
 plain_onward ps before w ws u p None e = inl (p, e)
 plain_onward ps before w ws u p (Some j) e =
     inr (inl (positional w, ws, refl, tt, ((p, (λ f. let g = sym e ∙ f in (cc))), tt), omega arith, u))
@@ -207,9 +207,9 @@ word_onward : (ps : List Parameter) (before : List Step) (w : Text) (ws : Words)
     Onward ps before (w ∷ ws)
 word_onward ps before w ws v u true true e f = dashed_onward ps before w ws u e (written w v f)
 word_onward ps before w ws v u true false e f =
-    plain_onward ps before w ws u (ap (λ o. o && is_dashed w) e ∙ f) (place ps (placed before)) refl
+    plain_onward ps before w ws u (ap (λ o. o && is_dashed w) e ∙ f) (place ps (positionals_among before)) refl
 word_onward ps before w ws v u false d e f =
-    plain_onward ps before w ws u (ap (λ o. o && is_dashed w) e) (place ps (placed before)) refl
+    plain_onward ps before w ws u (ap (λ o. o && is_dashed w) e) (place ps (positionals_among before)) refl
 
 onward : (ps : List Parameter) (before : List Step) (words : Words) → Utf8 words → Onward ps before words
 onward ps before [] u = inl tt
@@ -219,23 +219,23 @@ onward ps before (w ∷ ws) u = word_onward ps before w ws u.0 u.1 (is_open ps b
 abbrev Read : List Parameter → List Step → Words → Type 0
 Read ps before words =
     (pieces : List Piece) × (rest : Words) × (words ≡ flat_map words_of pieces ++ rest) × PiecesFollow ps before pieces
-    × (Ends ps (before ++ flat_map steps_of pieces) rest ⊎ ((cause : ArgumentFault) × BadOption ps (before ++ flat_map steps_of pieces) rest cause))
+    × (Ends ps (before ++ flat_map steps_of_piece pieces) rest ⊎ ((cause : ArgumentFault) × BadOption ps (before ++ flat_map steps_of_piece pieces) rest cause))
 
-read_more : (ps : List Parameter) (before : List Step) (words rest : Words) (x : Piece) → words ≡ words_of x ++ rest → HasOptionName x → StepsFollow ps before (steps_of x) →
-    Read ps (before ++ steps_of x) rest → Read ps before words
+read_more : (ps : List Parameter) (before : List Step) (words rest : Words) (x : Piece) → words ≡ words_of x ++ rest → HasOptionName x → StepsFollow ps before (steps_of_piece x) →
+    Read ps (before ++ steps_of_piece x) rest → Read ps before words
 read_more ps before words rest x e w s (xs, after, f, p, q) = (
   x ∷ xs,
   after,
   e ∙ ap (λ t. words_of x ++ t) f ∙ sym (append_assoc (words_of x) (flat_map words_of xs) after),
   (w, s, p),
-  subst (λ b. Ends ps b after ⊎ ((cause : ArgumentFault) × BadOption ps b after cause)) (append_assoc before (steps_of x) (flat_map steps_of xs)) q,
+  subst (λ b. Ends ps b after ⊎ ((cause : ArgumentFault) × BadOption ps b after cause)) (append_assoc before (steps_of_piece x) (flat_map steps_of_piece xs)) q,
 )
 
 read_on : (fuel : ℕ) → ((ps : List Parameter) (before : List Step) (words : Words) → length words < fuel → Utf8 words → Read ps before words) →
     (ps : List Parameter) (before : List Step) (words : Words) → length words < suc fuel → Onward ps before words → Read ps before words
 read_on fuel more ps before words h (inl e) = ([], words, refl, tt, inl (subst (λ b. Ends ps b words) (sym (append-nil before)) e))
 read_on fuel more ps before words h (inr (inl (x, rest, e, w, s, less, u))) =
-    read_more ps before words rest x e w s (more ps (before ++ steps_of x) rest (omega arith) u)
+    read_more ps before words rest x e w s (more ps (before ++ steps_of_piece x) rest (omega arith) u)
 read_on fuel more ps before words h (inr (inr (cause, p))) =
     ([], words, refl, tt, inr (cause, subst (λ b. BadOption ps b words cause) (sym (append-nil before)) p))
 
@@ -265,11 +265,11 @@ TailOr ps words =
 
 tail_of : (ps : List Parameter) (words : Words) → Read ps [] words → TailOr ps words
 tail_of ps words (xs, rest, e, p, inl ends) =
-    let g = groups_of ps (flat_map steps_of xs) 0 (length ps) in
+    let g = groups_of ps (flat_map steps_of_piece xs) 0 (length ps) in
     inl (
       flat_map words_of xs,
       rest,
-      placed (flat_map steps_of xs),
+      positionals_among (flat_map steps_of_piece xs),
       g.0,
       e,
       record {
@@ -279,7 +279,7 @@ tail_of ps words (xs, rest, e, p, inl ends) =
         ends = ends;
         counts = refl;
         each_one = g.1;
-        each = λ j h. g.2 j h ∙ ap (group_of ps (flat_map steps_of xs)) (let e : 0 + j ≡ j = omega arith in e);
+        each = λ j h. g.2 j h ∙ ap (group_of ps (flat_map steps_of_piece xs)) (let e : 0 + j ≡ j = omega arith in e);
       },
     )
 tail_of ps words (xs, rest, e, p, inr (cause, bad)) =

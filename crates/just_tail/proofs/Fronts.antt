@@ -10,7 +10,7 @@ use Rattle.just_errors.specs.declared.switch.Switch.{Switch}
 use Rattle.just_errors.specs.declared.switch.Switch.TheVariants.{Short}
 use Rattle.just_tail.specs.Words.{Words}
 use Rattle.just_tail.specs.Pieces.{OptionName, long, cluster, Supplied, nothing, equals, next, Piece, positional, dashes, option, option_word, value_of, next_of, words_of, switches_of, IsOptionName, HasOptionName, is_dashed}
-use Rattle.just_tail.specs.Steps.{Step, use_switch, give, steps_of, is_open, Need, unknown, duplicate, no_text, some_text, need, FitsNeed, StepsFollow, PiecesFollow, Ends}
+use Rattle.just_tail.specs.Steps.{Step, use_switch, give, steps_of_piece, is_open, Need, unknown, duplicate, no_text, some_text, need, FitsNeed, StepsFollow, PiecesFollow, Ends}
 use Rattle.just_tail.proofs.Names.{option_once, option_dashed, not_dashes}
 
 -- the words of an option, with those that follow
@@ -79,7 +79,7 @@ not_plain ps before w n g e named p q =
     plain_clash (is_open ps before) (is_dashed w) p (steps_open ps before (switches_of n) g (some_switch n named) q) (ap is_dashed e ∙ option_dashed n (value_of g) named)
 
 piece_once : (ps : List Parameter) (before : List Step) (x y : Piece) (a c : Words) → words_of x ++ a ≡ words_of y ++ c →
-    HasOptionName x → HasOptionName y → StepsFollow ps before (steps_of x) → StepsFollow ps before (steps_of y) → (x ≡ y) × (a ≡ c)
+    HasOptionName x → HasOptionName y → StepsFollow ps before (steps_of_piece x) → StepsFollow ps before (steps_of_piece y) → (x ≡ y) × (a ≡ c)
 piece_once ps before (positional v) (positional w) a c e p q f g = ((let h : v ≡ w = (cc) in ap positional h), (cc))
 piece_once ps before (positional v) dashes a c e p q f g =
     absurd (plain_clash (is_open ps before) (is_dashed v) f.0.0 g.0 (let h : v ≡ 45 ∷ (45 ∷ []) = (cc) in ap is_dashed h))
@@ -102,7 +102,7 @@ piece_once ps before (option n h) (option m k) a c e p q f g =
 
 -- what stops a tail, before words that begin with no piece
 abbrev pub Stop : List Parameter → (List Step → Words → Type 0) → Type 0
-Stop ps P = (before : List Step) (x : Piece) (t : Words) → P before (words_of x ++ t) → HasOptionName x → StepsFollow ps before (steps_of x) → ⊥
+Stop ps P = (before : List Step) (x : Piece) (t : Words) → P before (words_of x ++ t) → HasOptionName x → StepsFollow ps before (steps_of_piece x) → ⊥
 
 -- no piece begins where a tail ends
 pub ends_first : (ps : List Parameter) → Stop ps (Ends ps)
@@ -115,7 +115,7 @@ ends_first ps before (option n g) t p q f =
 -- words have one front of pieces before what stops them
 pub fronts_once : (ps : List Parameter) (P Q : List Step → Words → Type 0) → Stop ps P → Stop ps Q → (before : List Step) (xs ys : List Piece) (a c : Words) →
     flat_map words_of xs ++ a ≡ flat_map words_of ys ++ c → PiecesFollow ps before xs → PiecesFollow ps before ys →
-    P (before ++ flat_map steps_of xs) a → Q (before ++ flat_map steps_of ys) c → (xs ≡ ys) × (a ≡ c)
+    P (before ++ flat_map steps_of_piece xs) a → Q (before ++ flat_map steps_of_piece ys) c → (xs ≡ ys) × (a ≡ c)
 fronts_once ps P Q s t before [] [] a c e p q f g = (refl, e)
 fronts_once ps P Q s t before [] (y ∷ ys) a c e p q f g =
     absurd (s before y (flat_map words_of ys ++ c)
@@ -126,8 +126,8 @@ fronts_once ps P Q s t before (x ∷ xs) [] a c e p q f g =
 fronts_once ps P Q s t before (x ∷ xs) (y ∷ ys) a c e p q f g =
     let one = piece_once ps before x y (flat_map words_of xs ++ a) (flat_map words_of ys ++ c)
     (sym (append_assoc (words_of x) (flat_map words_of xs) a) ∙ e ∙ append_assoc (words_of y) (flat_map words_of ys) c) p.0 q.0 p.1 q.1 in
-    let rest = fronts_once ps P Q s t (before ++ steps_of y) xs ys a c one.1
-    (subst (λ z. PiecesFollow ps (before ++ steps_of z) xs) one.0 p.2) q.2
-    (subst (λ b. P b a) (ap (λ z. before ++ (steps_of z ++ flat_map steps_of xs)) one.0 ∙ sym (append_assoc before (steps_of y) (flat_map steps_of xs))) f)
-    (subst (λ b. Q b c) (sym (append_assoc before (steps_of y) (flat_map steps_of ys))) g) in
+    let rest = fronts_once ps P Q s t (before ++ steps_of_piece y) xs ys a c one.1
+    (subst (λ z. PiecesFollow ps (before ++ steps_of_piece z) xs) one.0 p.2) q.2
+    (subst (λ b. P b a) (ap (λ z. before ++ (steps_of_piece z ++ flat_map steps_of_piece xs)) one.0 ∙ sym (append_assoc before (steps_of_piece y) (flat_map steps_of_piece xs))) f)
+    (subst (λ b. Q b c) (sym (append_assoc before (steps_of_piece y) (flat_map steps_of_piece ys))) g) in
     (ap (λ z. z ∷ xs) one.0 ∙ ap (λ zs. y ∷ zs) rest.0, rest.1)

@@ -10,19 +10,19 @@ use Rattle.just_names.specs.Texts.{Text, texts}
 use Rattle.just_ast_definitions.specs.declared.parameter.Parameter.{Parameter}
 use Rattle.just_errors.specs.declared.switch.Switch.{Switch}
 use Rattle.just_tail.specs.declared.progress.Progress.{Progress}
-use Rattle.just_tail.specs.Words.{Words, shown}
+use Rattle.just_tail.specs.Words.{Words, as_texts}
 use Rattle.just_tail.specs.Options.{option_of, has_options, place}
 use Rattle.just_tail.specs.Pieces.{Supplied}
-use Rattle.just_tail.specs.Steps.{Step, take_word, close_options, use_switch, placed, is_closed, text_given, Uses, use_at, use_by, uses_from, group}
+use Rattle.just_tail.specs.Steps.{Step, take_word, close_options, use_switch, positionals_among, is_closed, text_given, Uses, use_at, use_by, uses_from, group}
 use Rattle.just_tail.specs.Reader.{HasRead}
 
 -- a word more in one group
 pub shown_pushed_at : (xs : List (Vec (Bor Text) Global)) (i : ℕ) (old new : Vec (Bor Text) Global) (w : Bor Text) → i < length xs →
     old ≡ get_or xs i old → new.items ≡ old.items ++ w ∷ [] →
-    shown (set xs i new) ≡ set (shown xs) i (get_or (shown xs) i [] ++ w.now ∷ [])
+    as_texts (set xs i new) ≡ set (as_texts xs) i (get_or (as_texts xs) i [] ++ w.now ∷ [])
 shown_pushed_at xs i old new w h e f =
     map-set (λ v. texts v.items) xs i new
-    ∙ ap (λ g. set (shown xs) i g) (ap texts f ∙ map-append (λ v. v.now) old.items (w ∷ [])
+    ∙ ap (λ g. set (as_texts xs) i g) (ap texts f ∙ map-append (λ v. v.now) old.items (w ∷ [])
     ∙ ap (λ g. g ++ w.now ∷ []) (ap (λ v. texts v.items) e ∙ sym (get_or-map (λ v. texts v.items) xs i old [] h)))
 
 cond-append : (b : Bool) (x : Text) (xs ys : Words) → cond b (x ∷ (xs ++ ys)) (xs ++ ys) ≡ cond b (x ∷ xs) xs ++ ys
@@ -61,27 +61,27 @@ group_more gs more uses i w n e h each j small =
 
 -- the uses of one step more
 uses_push : (ps : List Parameter) (k : ℕ) (steps : List Step) (x : Step) →
-    uses_from ps k (steps ++ x ∷ []) ≡ uses_from ps k steps ++ uses_from ps (k + placed steps) (x ∷ [])
+    uses_from ps k (steps ++ x ∷ []) ≡ uses_from ps k steps ++ uses_from ps (k + positionals_among steps) (x ∷ [])
 uses_push ps k [] x = let e : k ≡ k + 0 = omega arith in ap (λ m. uses_from ps m (x ∷ [])) e
 uses_push ps k (take_word w ∷ steps) x =
-    let e : k + 1 + placed steps ≡ k + (placed steps + 1) = omega arith in
+    let e : k + 1 + positionals_among steps ≡ k + (positionals_among steps + 1) = omega arith in
     ap (λ us. use_at (place ps k) w ++ us) (uses_push ps (k + 1) steps x ∙ ap (λ m. uses_from ps (k + 1) steps ++ uses_from ps m (x ∷ [])) e)
-    ∙ sym (append_assoc (use_at (place ps k) w) (uses_from ps (k + 1) steps) (uses_from ps (k + (placed steps + 1)) (x ∷ [])))
+    ∙ sym (append_assoc (use_at (place ps k) w) (uses_from ps (k + 1) steps) (uses_from ps (k + (positionals_among steps + 1)) (x ∷ [])))
 uses_push ps k (close_options ∷ steps) x = uses_push ps k steps x
 uses_push ps k (use_switch s g ∷ steps) x =
     ap (λ us. use_by (option_of ps s) (text_given g) ++ us) (uses_push ps k steps x)
-    ∙ sym (append_assoc (use_by (option_of ps s) (text_given g)) (uses_from ps k steps) (uses_from ps (k + placed steps) (x ∷ [])))
+    ∙ sym (append_assoc (use_by (option_of ps s) (text_given g)) (uses_from ps k steps) (uses_from ps (k + positionals_among steps) (x ∷ [])))
 
 uses_before : (ps : List Parameter) (before : List Step) (x : Step) →
-    uses_from ps 0 (before ++ x ∷ []) ≡ uses_from ps 0 before ++ uses_from ps (placed before) (x ∷ [])
+    uses_from ps 0 (before ++ x ∷ []) ≡ uses_from ps 0 before ++ uses_from ps (positionals_among before) (x ∷ [])
 uses_before ps before x =
-    let e : 0 + placed before ≡ placed before = omega arith in
+    let e : 0 + positionals_among before ≡ positionals_among before = omega arith in
     uses_push ps 0 before x ∙ ap (λ k. uses_from ps 0 before ++ uses_from ps k (x ∷ [])) e
 
-placed_push : (steps : List Step) (x : Step) → placed (steps ++ x ∷ []) ≡ placed steps + placed (x ∷ [])
-placed_push [] x = let e : placed (x ∷ []) ≡ 0 + placed (x ∷ []) = omega arith in e
+placed_push : (steps : List Step) (x : Step) → positionals_among (steps ++ x ∷ []) ≡ positionals_among steps + positionals_among (x ∷ [])
+placed_push [] x = let e : positionals_among (x ∷ []) ≡ 0 + positionals_among (x ∷ []) = omega arith in e
 placed_push (take_word w ∷ steps) x =
-    let e : placed steps + placed (x ∷ []) + 1 ≡ placed steps + 1 + placed (x ∷ []) = omega arith in
+    let e : positionals_among steps + positionals_among (x ∷ []) + 1 ≡ positionals_among steps + 1 + positionals_among (x ∷ []) = omega arith in
     ap (λ n. n + 1) (placed_push steps x) ∙ e
 placed_push (close_options ∷ steps) x = placed_push steps x
 placed_push (use_switch s g ∷ steps) x = placed_push steps x
@@ -104,36 +104,36 @@ and_false false b e = refl
 
 -- a step more whose parameter gains a text
 stands_text : (ps : List Parameter) (before : List Step) (x : Step) (old new : Progress) (j : ℕ) (text : Text) →
-    uses_from ps (placed before) (x ∷ []) ≡ (j, text) ∷ [] → is_closed (x ∷ []) ≡ false → j < length ps → HasRead ps before old →
-    new.opened ≡ old.opened → new.placed ≡ old.placed + placed (x ∷ []) →
-    shown new.groups.items ≡ set (shown old.groups.items) j (get_or (shown old.groups.items) j [] ++ text ∷ []) →
+    uses_from ps (positionals_among before) (x ∷ []) ≡ (j, text) ∷ [] → is_closed (x ∷ []) ≡ false → j < length ps → HasRead ps before old →
+    new.opened ≡ old.opened → new.placed ≡ old.placed + positionals_among (x ∷ []) →
+    as_texts new.groups.items ≡ set (as_texts old.groups.items) j (get_or (as_texts old.groups.items) j [] ++ text ∷ []) →
     HasRead ps (before ++ x ∷ []) new
 stands_text ps before x old new j text e open_still small s f g pushed =
-    let within : j < length (shown old.groups.items) = let h = s.groups in omega arith in
+    let within : j < length (as_texts old.groups.items) = let h = s.groups in omega arith in
     record {
       opened = f ∙ s.opened ∙ sym (ap (λ b. has_options ps && not b) (closed_same before x open_still));
-      count = g ∙ ap (λ n. n + placed (x ∷ [])) s.count ∙ sym (placed_push before x);
-      groups = ap length pushed ∙ length-set (shown old.groups.items) j (get_or (shown old.groups.items) j [] ++ text ∷ []) ∙ s.groups;
+      count = g ∙ ap (λ n. n + positionals_among (x ∷ [])) s.count ∙ sym (placed_push before x);
+      groups = ap length pushed ∙ length-set (as_texts old.groups.items) j (get_or (as_texts old.groups.items) j [] ++ text ∷ []) ∙ s.groups;
       each = λ i h.
-          group_more (shown old.groups.items) (shown new.groups.items) (uses_from ps 0 before) j text (length ps) pushed within s.each i h
+          group_more (as_texts old.groups.items) (as_texts new.groups.items) (uses_from ps 0 before) j text (length ps) pushed within s.each i h
           ∙ sym (ap (group i) (uses_before ps before x ∙ ap (λ us. uses_from ps 0 before ++ us) e));
     }
 
 -- a positional word more
 pub stands_take : (ps : List Parameter) (before : List Step) (w : Text) (old new : Progress) (j : ℕ) →
-    place ps (placed before) ≡ Some j → j < length ps → HasRead ps before old →
+    place ps (positionals_among before) ≡ Some j → j < length ps → HasRead ps before old →
     new.opened ≡ old.opened → new.placed ≡ old.placed + 1 →
-    shown new.groups.items ≡ set (shown old.groups.items) j (get_or (shown old.groups.items) j [] ++ w ∷ []) →
+    as_texts new.groups.items ≡ set (as_texts old.groups.items) j (get_or (as_texts old.groups.items) j [] ++ w ∷ []) →
     HasRead ps (before ++ take_word w ∷ []) new
 stands_take ps before w old new j e small s f g pushed =
-    let one : placed (take_word w ∷ []) ≡ 1 = let h : 0 + 1 ≡ 1 = omega arith in h in
+    let one : positionals_among (take_word w ∷ []) ≡ 1 = let h : 0 + 1 ≡ 1 = omega arith in h in
     stands_text ps before (take_word w) old new j w (ap (λ o. use_at o w ++ []) e) refl small s f (g ∙ ap (λ n. old.placed + n) (sym one)) pushed
 
 -- a switch more
 pub stands_use : (ps : List Parameter) (before : List Step) (s : Switch) (g : Supplied) (old new : Progress) (j : ℕ) (p : Parameter) (text : Text) →
     option_of ps s ≡ Some (j, p) → text ≡ text_given g → j < length ps → HasRead ps before old →
     new.opened ≡ old.opened → new.placed ≡ old.placed →
-    shown new.groups.items ≡ set (shown old.groups.items) j (get_or (shown old.groups.items) j [] ++ text ∷ []) →
+    as_texts new.groups.items ≡ set (as_texts old.groups.items) j (get_or (as_texts old.groups.items) j [] ++ text ∷ []) →
     HasRead ps (before ++ use_switch s g ∷ []) new
 stands_use ps before s g old new j p text e f small stands o c pushed =
     let none : old.placed ≡ old.placed + 0 = omega arith in
@@ -144,8 +144,8 @@ stands_use ps before s g old new j p text e f small stands o c pushed =
 pub stands_close : (ps : List Parameter) (before : List Step) (old new : Progress) → HasRead ps before old →
     new.opened ≡ false → new.placed ≡ old.placed → new.groups ≡ old.groups → HasRead ps (before ++ close_options ∷ []) new
 stands_close ps before old new s o c same =
-    let none : placed before ≡ placed before + 0 = omega arith in
-    let shows : shown new.groups.items ≡ shown old.groups.items = ap (λ g. shown g.items) same in
+    let none : positionals_among before ≡ positionals_among before + 0 = omega arith in
+    let shows : as_texts new.groups.items ≡ as_texts old.groups.items = ap (λ g. as_texts g.items) same in
     record {
       opened = o ∙ sym (and_false (has_options ps) (is_closed (before ++ close_options ∷ [])) (close_closes before));
       count = c ∙ s.count ∙ none ∙ sym (placed_push before close_options);

@@ -2,9 +2,9 @@
 use Rattle.std.proofs.Common.{◌≡◌, ℕ, zero, suc, ◌<◌, List, [], ◌∷◌, ◌++◌, length, get_or, refl, sym, ap, ◌∙◌, subst, arith}
 use Rattle.std.specs.List.{flat_map}
 use Rattle.just_ast_definitions.specs.declared.parameter.Parameter.{Parameter}
-use Rattle.just_tail.specs.Words.{Words, shown}
+use Rattle.just_tail.specs.Words.{Words, as_texts}
 use Rattle.just_tail.specs.Pieces.{words_of}
-use Rattle.just_tail.specs.Steps.{steps_of, placed, group_of, Ends}
+use Rattle.just_tail.specs.Steps.{steps_of_piece, positionals_among, group_of, Ends}
 use Rattle.just_tail.specs.Cause.{ArgumentFault}
 use Rattle.just_tail.specs.Tail.{IsTail, BadOption, NoTail}
 use Rattle.just_tail.proofs.Fronts.{ends_first, fronts_once}
@@ -22,17 +22,17 @@ same_groups (suc n) (x ∷ xs) (y ∷ ys) e f h =
     (cc)
 
 -- words begin with at most one tail
-pub tail_once : (ps : List Parameter) (tail other after rest : Words) (found more : ℕ) (groups shown : List Words) →
-    tail ++ after ≡ other ++ rest → IsTail ps tail after found groups → IsTail ps other rest more shown →
-    (tail ≡ other) × (after ≡ rest) × (found ≡ more) × (groups ≡ shown)
-tail_once ps tail other after rest found more groups shown e p q =
+pub tail_once : (ps : List Parameter) (tail other after rest : Words) (found more : ℕ) (groups as_texts : List Words) →
+    tail ++ after ≡ other ++ rest → IsTail ps tail after found groups → IsTail ps other rest more as_texts →
+    (tail ≡ other) × (after ≡ rest) × (found ≡ more) × (groups ≡ as_texts)
+tail_once ps tail other after rest found more groups as_texts e p q =
     let r = fronts_once ps (Ends ps) (Ends ps) (ends_first ps) (ends_first ps) [] p.pieces q.pieces after rest
     (ap (λ t. t ++ after) (sym p.whole) ∙ e ∙ ap (λ t. t ++ rest) q.whole) p.reads q.reads p.ends q.ends in
-    let same : flat_map steps_of p.pieces ≡ flat_map steps_of q.pieces = ap (flat_map steps_of) r.0 in (
+    let same : flat_map steps_of_piece p.pieces ≡ flat_map steps_of_piece q.pieces = ap (flat_map steps_of_piece) r.0 in (
       p.whole ∙ ap (flat_map words_of) r.0 ∙ sym q.whole,
       r.1,
-      p.counts ∙ ap placed same ∙ sym q.counts,
-      same_groups (length ps) groups shown p.each_one q.each_one (λ j h. p.each j h ∙ ap (λ s. group_of ps s j) same ∙ sym (q.each j h)),
+      p.counts ∙ ap positionals_among same ∙ sym q.counts,
+      same_groups (length ps) groups as_texts p.each_one q.each_one (λ j h. p.each j h ∙ ap (λ s. group_of ps s j) same ∙ sym (q.each j h)),
     )
 
 -- words that begin with a tail have no fault of one
@@ -41,13 +41,13 @@ pub tail_no_fault : (ps : List Parameter) (tail after : Words) (found : ℕ) (gr
 tail_no_fault ps tail after found groups cause p q =
     let r = fronts_once ps (Ends ps) (λ before words. BadOption ps before words cause) (ends_first ps) (bad_first ps cause) [] p.pieces q.pieces after q.rest
     (ap (λ t. t ++ after) (sym p.whole) ∙ q.whole) p.reads q.reads p.ends q.bad in
-    ends_bad ps (flat_map steps_of q.pieces) q.rest cause
-    (subst (λ b. Ends ps b q.rest) (ap (flat_map steps_of) r.0) (subst (Ends ps (flat_map steps_of p.pieces)) r.1 p.ends)) q.bad
+    ends_bad ps (flat_map steps_of_piece q.pieces) q.rest cause
+    (subst (λ b. Ends ps b q.rest) (ap (flat_map steps_of_piece) r.0) (subst (Ends ps (flat_map steps_of_piece p.pieces)) r.1 p.ends)) q.bad
 
 -- words have at most one fault of a tail
 pub fault_once : (ps : List Parameter) (words : Words) (a b : ArgumentFault) → NoTail ps words a → NoTail ps words b → a ≡ b
 fault_once ps words a b p q =
     let r = fronts_once ps (λ before ws. BadOption ps before ws a) (λ before ws. BadOption ps before ws b) (bad_first ps a) (bad_first ps b) [] p.pieces q.pieces p.rest q.rest
     (sym p.whole ∙ q.whole) p.reads q.reads p.bad q.bad in
-    bad_once ps (flat_map steps_of q.pieces) q.rest a b
-    (subst (λ s. BadOption ps s q.rest a) (ap (flat_map steps_of) r.0) (subst (λ ws. BadOption ps (flat_map steps_of p.pieces) ws a) r.1 p.bad)) q.bad
+    bad_once ps (flat_map steps_of_piece q.pieces) q.rest a b
+    (subst (λ s. BadOption ps s q.rest a) (ap (flat_map steps_of_piece) r.0) (subst (λ ws. BadOption ps (flat_map steps_of_piece p.pieces) ws a) r.1 p.bad)) q.bad

@@ -8,7 +8,7 @@ use Rattle.just_errors.specs.declared.switch.Switch.{Switch}
 use Rattle.just_errors.specs.declared.switch.Switch.TheVariants.{Short}
 use Rattle.just_tail.specs.declared.error.TailError.{TailError}
 use Rattle.just_tail.specs.declared.progress.Progress.{Progress}
-use Rattle.just_tail.specs.Words.{Words, shown}
+use Rattle.just_tail.specs.Words.{Words, as_texts}
 use Rattle.just_tail.specs.Options.{option_of, has_options}
 use Rattle.just_tail.specs.Pieces.{Supplied, nothing, equals, next, value_of, next_of, letters}
 use Rattle.just_tail.specs.Steps.{Step, take_word, close_options, use_switch, give, is_closed, is_open, text_given, Need, unknown, duplicate, no_text, some_text, asks, need, FitsNeed, IsNext, StepsFollow}
@@ -22,7 +22,7 @@ use Rattle.just_tail.proofs.GroupLemmas.{stands_use}
 pub used : (ps : List Parameter) (before : List Step) (s : Switch) (g : Supplied) (takes : Bool) (old new : Progress) (j : ℕ) (text : Text) →
     need ps before s ≡ asks takes → FitsNeed (asks takes) g → (p : Parameter) × (option_of ps s ≡ Some (j, p)) → text ≡ text_given g → j < length ps →
     HasRead ps before old → new.opened ≡ old.opened → new.placed ≡ old.placed →
-    shown new.groups.items ≡ set (shown old.groups.items) j (get_or (shown old.groups.items) j [] ++ text ∷ []) →
+    as_texts new.groups.items ≡ set (as_texts old.groups.items) j (get_or (as_texts old.groups.items) j [] ++ text ∷ []) →
     FitsNeed (need ps before s) g × HasRead ps (before ++ use_switch s g ∷ []) new
 used ps before s g takes old new j text e fits p f small stands o c pushed =
     (subst (λ k. FitsNeed k g) (sym e) fits, stands_use ps before s g old new j p.0 text p.1 f small stands o c pushed)

@@ -9,7 +9,7 @@ use Rattle.just_tail.specs.declared.progress.Progress.{Progress}
 use Rattle.just_tail.specs.Words.{Words}
 use Rattle.just_tail.specs.Pieces.{OptionName, long, cluster, Supplied, option_word, value_of, next_of, switches_of, IsOptionName}
 use Rattle.just_tail.specs.Steps.{use_switch, give, need, FitsNeed, StepsFollow}
-use Rattle.just_tail.specs.Cause.{cause_of}
+use Rattle.just_tail.specs.Cause.{tail_cause_of}
 use Rattle.just_tail.specs.Tail.{RefusesSwitch, Refused, BadOption}
 use Rattle.just_tail.specs.Reader.{HasRead, HoldsAfter, HoldsOpen}
 use Rattle.just_tail.proofs.Outcomes.{IfOk_then, IfCause_then}
@@ -24,7 +24,7 @@ ReadsOption ps old new word rest r =
 
 -- an error says that it is none
 abbrev TellsOption : List Parameter → Progress → Text → Words → Result ℕ TailError → Type 0
-TellsOption ps old word rest r = IfErr r (λ e. IfSome (cause_of e) (λ cause. HoldsOpen ps old (λ before. BadOption ps before (word ∷ rest) cause)))
+TellsOption ps old word rest r = IfErr r (λ e. IfSome (tail_cause_of e) (λ cause. HoldsOpen ps old (λ before. BadOption ps before (word ∷ rest) cause)))
 
 -- a long name whose switch is given what fits
 pub long_read : (ps : List Parameter) (old new : Progress) (word name : Text) (value : Option Text) (rest : List (Bor Text)) (r : Result ℕ TailError) →
@@ -41,7 +41,7 @@ long_read ps old new word name value rest r is named given =
 -- or refused
 pub long_told : (ps : List Parameter) (old : Progress) (word name : Text) (value : Option Text) (rest : Words) (r : Result ℕ TailError) →
     word ≡ option_word (long name) value → IsOptionName (long name) →
-    IfErr r (λ e. IfSome (cause_of e) (λ cause. HoldsAfter ps old (λ before. RefusesSwitch (need ps before (Long name)) (Long name) [] value rest cause))) →
+    IfErr r (λ e. IfSome (tail_cause_of e) (λ cause. HoldsAfter ps old (λ before. RefusesSwitch (need ps before (Long name)) (Long name) [] value rest cause))) →
     TellsOption ps old word rest r
 long_told ps old word name value rest r is named refuses =
     IfCause_then r refuses
@@ -72,7 +72,7 @@ cluster_word ps old new word name value rest r is named given =
 -- or of which one is refused
 pub cluster_told : (ps : List Parameter) (old : Progress) (word name : Text) (value : Option Text) (rest : Words) (r : Result ℕ TailError) →
     word ≡ option_word (cluster name) value → IsOptionName (cluster name) →
-    IfErr r (λ e. IfSome (cause_of e) (λ cause. HoldsOpen ps old (λ before. Refused ps before (switches_of (cluster name)) value rest cause))) →
+    IfErr r (λ e. IfSome (tail_cause_of e) (λ cause. HoldsOpen ps old (λ before. Refused ps before (switches_of (cluster name)) value rest cause))) →
     TellsOption ps old word rest r
 cluster_told ps old word name value rest r is named refuses =
     IfCause_then r refuses

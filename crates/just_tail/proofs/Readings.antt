@@ -1,23 +1,23 @@
 -- Words have one reading or one refusal, with the checks of their groups.
 use Rattle.std.proofs.Common.{◌≡◌, inl, inr, ℕ, List, ◌++◌, Some, None, sym, ap, ◌∙◌, subst}
 use Rattle.just_ast_definitions.specs.declared.parameter.Parameter.{Parameter}
-use Rattle.just_tail.specs.Words.{Words, shown}
+use Rattle.just_tail.specs.Words.{Words, as_texts}
 use Rattle.just_tail.specs.Cause.{ArgumentFault}
 use Rattle.just_tail.specs.Tail.{NoTail}
 use Rattle.just_tail.specs.Checks.{CountFault, refusal, TakesArguments, StopsTail}
 use Rattle.just_tail.proofs.Once.{tail_once, tail_no_fault, fault_once}
 
 -- words begin with arguments in at most one way
-pub reading_once : (counts : CountFault) (ps : List Parameter) (tail other after rest : Words) (groups shown : List Words) →
-    tail ++ after ≡ other ++ rest → TakesArguments counts ps tail after groups → TakesArguments counts ps other rest shown →
-    (tail ≡ other) × (after ≡ rest) × (groups ≡ shown)
-reading_once counts ps tail other after rest groups shown e p q =
-    let r = tail_once ps tail other after rest p.found q.found groups shown e p.reads q.reads in
+pub reading_once : (counts : CountFault) (ps : List Parameter) (tail other after rest : Words) (groups as_texts : List Words) →
+    tail ++ after ≡ other ++ rest → TakesArguments counts ps tail after groups → TakesArguments counts ps other rest as_texts →
+    (tail ≡ other) × (after ≡ rest) × (groups ≡ as_texts)
+reading_once counts ps tail other after rest groups as_texts e p q =
+    let r = tail_once ps tail other after rest p.found q.found groups as_texts e p.reads q.reads in
     (r.0, r.1, r.3)
 
-same_refusal : (counts : CountFault) (ps : List Parameter) (groups shown : List Words) (found more : ℕ) →
-    groups ≡ shown → found ≡ more → refusal counts ps groups found ≡ refusal counts ps shown more
-same_refusal counts ps groups shown found more e f = ap (λ gs. refusal counts ps gs found) e ∙ ap (refusal counts ps shown) f
+same_refusal : (counts : CountFault) (ps : List Parameter) (groups as_texts : List Words) (found more : ℕ) →
+    groups ≡ as_texts → found ≡ more → refusal counts ps groups found ≡ refusal counts ps as_texts more
+same_refusal counts ps groups as_texts found more e f = ap (λ gs. refusal counts ps gs found) e ∙ ap (refusal counts ps as_texts) f
 
 -- words that begin with arguments are not refused
 pub reading_no_stop : (counts : CountFault) (ps : List Parameter) (tail after : Words) (groups : List Words) (cause : ArgumentFault) →

@@ -6,7 +6,7 @@ use Rattle.just_ast_definitions.specs.declared.parameter.Parameter.{Parameter}
 use Rattle.just_errors.specs.declared.switch.Switch.{Switch}
 use Rattle.just_tail.specs.Words.{Words}
 use Rattle.just_tail.specs.Pieces.{Supplied, nothing, equals, next, Piece, positional, dashes, option, option_word, value_of, next_of, words_of, switches_of, HasOptionName, is_dashed, IsNameless}
-use Rattle.just_tail.specs.Steps.{Step, use_switch, give, steps_of, is_open, Need, unknown, duplicate, no_text, some_text, need, FitsNeed, StepsFollow, Ends}
+use Rattle.just_tail.specs.Steps.{Step, use_switch, give, steps_of_piece, is_open, Need, unknown, duplicate, no_text, some_text, need, FitsNeed, StepsFollow, Ends}
 use Rattle.just_tail.specs.Cause.{ArgumentFault}
 use Rattle.just_tail.specs.Tail.{RefusesSwitch, given_nothing, BadSwitch, NamelessOption, BadOption}
 use Rattle.just_tail.proofs.Names.{option_once, option_dashed, not_dashes, is_named, nameless_dashed, nameless_dashes}
@@ -61,14 +61,14 @@ refused ps before (x ∷ xs) s after g value rest t cause e f p q =
     refused ps (before ++ use_switch x nothing ∷ []) xs s after g value rest t cause e f h.1 (at_more ps before x xs s after value rest cause q)
 
 not_next : (ps : List Parameter) (before : List Step) (x : Piece) (t : Words) (cause : ArgumentFault) →
-    is_open ps before ≡ true → NamelessOption (words_of x ++ t) cause → HasOptionName x → StepsFollow ps before (steps_of x) → ⊥
+    is_open ps before ≡ true → NamelessOption (words_of x ++ t) cause → HasOptionName x → StepsFollow ps before (steps_of_piece x) → ⊥
 not_next ps before (positional w) t cause o b q f = plain_clash (is_open ps before) (is_dashed w) f.0.0 o (nameless_dashed w b.0)
 not_next ps before dashes t cause o b q f = nameless_dashes (45 ∷ (45 ∷ [])) refl b.0
 not_next ps before (option n g) t cause o b q f =
     let h = subst (λ ws. NamelessOption ws cause) (option_words n g t) b in is_named n (value_of g) q h.0
 
 not_good : (ps : List Parameter) (before : List Step) (x : Piece) (t : Words) (cause : ArgumentFault) →
-    is_open ps before ≡ true → BadSwitch ps before (words_of x ++ t) cause → HasOptionName x → StepsFollow ps before (steps_of x) → ⊥
+    is_open ps before ≡ true → BadSwitch ps before (words_of x ++ t) cause → HasOptionName x → StepsFollow ps before (steps_of_piece x) → ⊥
 not_good ps before (positional w) t cause o b q f =
     let e = b.whole in
     plain_clash (is_open ps before) (is_dashed w) f.0.0 o (let h : w ≡ option_word b.name b.value = (cc) in ap is_dashed h ∙ option_dashed b.name b.value b.named)

@@ -6,9 +6,9 @@ use Rattle.std.specs.Borrow.{Bor}
 use Rattle.just_names.specs.Texts.{Text, texts}
 use Rattle.just_ast_definitions.specs.declared.parameter.Parameter.{Parameter}
 use Rattle.just_tail.specs.declared.progress.Progress.{Progress}
-use Rattle.just_tail.specs.Words.{Words, shown}
+use Rattle.just_tail.specs.Words.{Words, as_texts}
 use Rattle.just_tail.specs.Pieces.{Piece, words_of, HasOptionName}
-use Rattle.just_tail.specs.Steps.{Step, steps_of, StepsFollow, PiecesFollow, Ends}
+use Rattle.just_tail.specs.Steps.{Step, steps_of_piece, StepsFollow, PiecesFollow, Ends}
 use Rattle.just_tail.specs.Tail.{IsTail}
 use Rattle.just_tail.specs.Reader.{HasRead}
 use Rattle.just_tail.proofs.OptionLemmas.{take_none}
@@ -36,10 +36,10 @@ texts_cut n words = ap texts (sym (take-append-drop n words)) ∙ map-append (λ
 
 -- a piece more
 pub pieces_push : (ps : List Parameter) (before : List Step) (xs : List Piece) (x : Piece) → PiecesFollow ps before xs → HasOptionName x →
-    StepsFollow ps (before ++ flat_map steps_of xs) (steps_of x) → PiecesFollow ps before (xs ++ x ∷ [])
-pieces_push ps before [] x p w q = (w, subst (λ b. StepsFollow ps b (steps_of x)) (append-nil before) q, tt)
+    StepsFollow ps (before ++ flat_map steps_of_piece xs) (steps_of_piece x) → PiecesFollow ps before (xs ++ x ∷ [])
+pieces_push ps before [] x p w q = (w, subst (λ b. StepsFollow ps b (steps_of_piece x)) (append-nil before) q, tt)
 pieces_push ps before (y ∷ ys) x p w q =
-    (p.0, p.1, pieces_push ps (before ++ steps_of y) ys x p.2 w (subst (λ b. StepsFollow ps b (steps_of x)) (sym (append_assoc before (steps_of y) (flat_map steps_of ys))) q))
+    (p.0, p.1, pieces_push ps (before ++ steps_of_piece y) ys x p.2 w (subst (λ b. StepsFollow ps b (steps_of_piece x)) (sym (append_assoc before (steps_of_piece y) (flat_map steps_of_piece ys))) q))
 
 -- its words
 pub words_push : (xs : List Piece) (x : Piece) → flat_map words_of (xs ++ x ∷ []) ≡ flat_map words_of xs ++ words_of x
@@ -47,9 +47,9 @@ words_push [] x = append-nil (words_of x)
 words_push (y ∷ ys) x = ap (λ t. words_of y ++ t) (words_push ys x) ∙ sym (append_assoc (words_of y) (flat_map words_of ys) (words_of x))
 
 -- its steps
-pub flat_push : (xs : List Piece) (x : Piece) → flat_map steps_of (xs ++ x ∷ []) ≡ flat_map steps_of xs ++ steps_of x
-flat_push [] x = append-nil (steps_of x)
-flat_push (y ∷ ys) x = ap (λ t. steps_of y ++ t) (flat_push ys x) ∙ sym (append_assoc (steps_of y) (flat_map steps_of ys) (steps_of x))
+pub flat_push : (xs : List Piece) (x : Piece) → flat_map steps_of_piece (xs ++ x ∷ []) ≡ flat_map steps_of_piece xs ++ steps_of_piece x
+flat_push [] x = append-nil (steps_of_piece x)
+flat_push (y ∷ ys) x = ap (λ t. steps_of_piece y ++ t) (flat_push ys x) ∙ sym (append_assoc (steps_of_piece y) (flat_map steps_of_piece ys) (steps_of_piece x))
 
 -- no words are left after the last
 pub ends_at_end : (ps : List Parameter) (before : List Step) (words : List (Bor Text)) (t : ℕ) → length words ≤ t → Ends ps before (texts (drop t words))
@@ -57,8 +57,8 @@ ends_at_end ps before words t h = subst (λ ws. Ends ps before (texts ws)) (sym 
 
 -- the words that were read are a tail, where it ends
 pub tail_read : (ps : List Parameter) (words : List (Bor Text)) (t : ℕ) (pieces : List Piece) (p : Progress) →
-    texts (take t words) ≡ flat_map words_of pieces → PiecesFollow ps [] pieces → HasRead ps (flat_map steps_of pieces) p →
-    Ends ps (flat_map steps_of pieces) (texts (drop t words)) → IsTail ps (texts (take t words)) (texts (drop t words)) p.placed (shown p.groups.items)
+    texts (take t words) ≡ flat_map words_of pieces → PiecesFollow ps [] pieces → HasRead ps (flat_map steps_of_piece pieces) p →
+    Ends ps (flat_map steps_of_piece pieces) (texts (drop t words)) → IsTail ps (texts (take t words)) (texts (drop t words)) p.placed (as_texts p.groups.items)
 tail_read ps words t pieces p e reads stands ends =
     record {
       pieces = pieces;
@@ -71,6 +71,6 @@ tail_read ps words t pieces p e reads stands ends =
     }
 
 -- the same of a reader that stands alike
-pub tail_alike : (ps : List Parameter) (tail after : Words) (p q : Progress) → q ≡ p → IsTail ps tail after p.placed (shown p.groups.items) →
-    IsTail ps tail after q.placed (shown q.groups.items)
-tail_alike ps tail after p q e read = subst (λ (r : Progress). IsTail ps tail after r.placed (shown r.groups.items)) (sym e) read
+pub tail_alike : (ps : List Parameter) (tail after : Words) (p q : Progress) → q ≡ p → IsTail ps tail after p.placed (as_texts p.groups.items) →
+    IsTail ps tail after q.placed (as_texts q.groups.items)
+tail_alike ps tail after p q e read = subst (λ (r : Progress). IsTail ps tail after r.placed (as_texts r.groups.items)) (sym e) read

@@ -19,14 +19,14 @@ pub data ArgumentFault : Type 0 where
   pattern_mismatch : Text → Text → ArgumentFault
 
 -- what an error says of the words; want of memory says nothing
-abbrev pub cause_of : TailError → Option ArgumentFault
-cause_of error.Memory = None
-cause_of (error.InvalidOption argument) = Some (invalid_option argument)
-cause_of (error.UnknownOption switch) = Some (unknown_option switch)
-cause_of (error.DuplicateOption switch) = Some (duplicate_option switch)
-cause_of (error.FlagWithValue switch) = Some (flag_with_value switch)
-cause_of (error.OptionMissingValue switch) = Some (option_missing_value switch)
-cause_of (error.MissingOption switch) = Some (missing_option switch)
-cause_of (error.PositionalArgumentCountMismatch found min max) = Some (count_mismatch found min max)
-cause_of (error.ValueCount parameter fault) = Some (value_count parameter fault)
-cause_of (error.ArgumentPatternMismatch parameter argument) = Some (pattern_mismatch parameter argument)
+abbrev pub tail_cause_of : TailError → Option ArgumentFault
+tail_cause_of error.Memory = None
+tail_cause_of (error.InvalidOption argument) = Some (invalid_option argument)
+tail_cause_of (error.UnknownOption switch) = Some (unknown_option switch)
+tail_cause_of (error.DuplicateOption switch) = Some (duplicate_option switch)
+tail_cause_of (error.FlagWithValue switch) = Some (flag_with_value switch)
+tail_cause_of (error.OptionMissingValue switch) = Some (option_missing_value switch)
+tail_cause_of (error.MissingOption switch) = Some (missing_option switch)
+tail_cause_of (error.PositionalArgumentCountMismatch found min max) = Some (count_mismatch found min max)
+tail_cause_of (error.ValueCount parameter fault) = Some (value_count parameter fault)
+tail_cause_of (error.ArgumentPatternMismatch parameter argument) = Some (pattern_mismatch parameter argument)

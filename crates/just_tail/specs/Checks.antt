@@ -60,7 +60,7 @@ lacking ps groups found =
 abbrev pub CountFault : Type 0
 CountFault = Parameter → Words → Option Fault
 
--- a group that isn't empty has a right count of texts
+-- what is wrong with how many texts a group has; nothing is with an empty one
 abbrev pub wrong_count : CountFault → Parameter → Words → Option ArgumentFault
 wrong_count counts p [] = None
 wrong_count counts p (w ∷ ws) = option_map (value_count (text_of_name p.name)) (counts p (w ∷ ws))

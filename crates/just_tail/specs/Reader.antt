@@ -4,9 +4,9 @@ use Rattle.std.specs.Str.{bytes_eq}
 use Rattle.std.specs.HashMap.{get}
 use Rattle.just_names.specs.Texts.{Text}
 use Rattle.just_ast_definitions.specs.declared.parameter.Parameter.{Parameter}
-use Rattle.just_tail.specs.Words.{shown}
+use Rattle.just_tail.specs.Words.{as_texts}
 use Rattle.just_tail.specs.Options.{place_from, positions_from, first_variadic}
-use Rattle.just_tail.specs.Steps.{Step, is_open, placed, group_of}
+use Rattle.just_tail.specs.Steps.{Step, is_open, positionals_among, group_of}
 use Rattle.just_errors.specs.declared.switch.Switch.{Switch}
 use Rattle.just_errors.specs.declared.switch.Switch.TheVariants.{Long, Short}
 use Rattle.just_tail.specs.declared.switch.BorrowedSwitch.{BorrowedSwitch}
@@ -29,9 +29,9 @@ pub record IsTailPlan (plan : Plan) : Type 0 where
 -- the reader has read these steps
 pub record HasRead (ps : List Parameter) (before : List Step) (p : Progress) : Type 0 where
   pub opened : p.opened ≡ is_open ps before
-  pub count : p.placed ≡ placed before
-  pub groups : length (shown p.groups.items) ≡ length ps
-  pub each : (j : ℕ) → j < length ps → slice_index_or (shown p.groups.items) j [] ≡ group_of ps before j
+  pub count : p.placed ≡ positionals_among before
+  pub groups : length (as_texts p.groups.items) ≡ length ps
+  pub each : (j : ℕ) → j < length ps → slice_index_or (as_texts p.groups.items) j [] ≡ group_of ps before j
 
 -- it holds after whatever steps the reader has read
 abbrev pub HoldsAfter : List Parameter → Progress → (List Step → Type 0) → Type 0

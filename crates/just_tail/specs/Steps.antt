@@ -21,17 +21,17 @@ give (s ∷ []) given = use_switch s given ∷ []
 give (s ∷ t ∷ ss) given = use_switch s nothing ∷ give (t ∷ ss) given
 
 -- the steps of a piece
-abbrev pub steps_of : Piece → List Step
-steps_of (positional w) = take_word w ∷ []
-steps_of dashes = close_options ∷ []
-steps_of (option name given) = give (switches_of name) given
+abbrev pub steps_of_piece : Piece → List Step
+steps_of_piece (positional w) = take_word w ∷ []
+steps_of_piece dashes = close_options ∷ []
+steps_of_piece (option name given) = give (switches_of name) given
 
 -- how many positional words are among the steps
-abbrev pub placed : List Step → ℕ
-placed [] = 0
-placed (take_word w ∷ steps) = placed steps + 1
-placed (close_options ∷ steps) = placed steps
-placed (use_switch s given ∷ steps) = placed steps
+abbrev pub positionals_among : List Step → ℕ
+positionals_among [] = 0
+positionals_among (take_word w ∷ steps) = positionals_among steps + 1
+positionals_among (close_options ∷ steps) = positionals_among steps
+positionals_among (use_switch s given ∷ steps) = positionals_among steps
 
 -- `--` is among the steps
 abbrev pub is_closed : List Step → Bool
@@ -115,7 +115,7 @@ FitsNeed _ _ = ⊥
 
 -- the step may come after those before it
 abbrev pub IsNext : List Parameter → List Step → Step → Type 0
-IsNext ps before (take_word w) = ((is_open ps before && is_dashed w) ≡ false) × (place ps (placed before) ≢ None)
+IsNext ps before (take_word w) = ((is_open ps before && is_dashed w) ≡ false) × (place ps (positionals_among before) ≢ None)
 IsNext ps before close_options = is_open ps before ≡ true
 IsNext ps before (use_switch s given) = (is_open ps before ≡ true) × FitsNeed (need ps before s) given
 
@@ -127,9 +127,9 @@ StepsFollow ps before (x ∷ xs) = IsNext ps before x × StepsFollow ps (before 
 -- the pieces may come after the steps before them
 abbrev pub PiecesFollow : List Parameter → List Step → List Piece → Type 0
 PiecesFollow ps before [] = Unit {0}
-PiecesFollow ps before (x ∷ xs) = HasOptionName x × StepsFollow ps before (steps_of x) × PiecesFollow ps (before ++ steps_of x) xs
+PiecesFollow ps before (x ∷ xs) = HasOptionName x × StepsFollow ps before (steps_of_piece x) × PiecesFollow ps (before ++ steps_of_piece x) xs
 
 -- a tail ends at the end of the words, or before a positional word for which no place is left
 abbrev pub Ends : List Parameter → List Step → Words → Type 0
 Ends ps before [] = Unit {0}
-Ends ps before (w ∷ ws) = ((is_open ps before && is_dashed w) ≡ false) × (place ps (placed before) ≡ None)
+Ends ps before (w ∷ ws) = ((is_open ps before && is_dashed w) ≡ false) × (place ps (positionals_among before) ≡ None)

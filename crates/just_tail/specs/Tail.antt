@@ -5,7 +5,7 @@ use Rattle.just_names.specs.Texts.{Text}
 use Rattle.just_ast_definitions.specs.declared.parameter.Parameter.{Parameter}
 use Rattle.just_tail.specs.Words.{Words}
 use Rattle.just_tail.specs.Pieces.{OptionName, Piece, nothing, option_word, words_of, switches_of, IsOptionName, IsNameless}
-use Rattle.just_tail.specs.Steps.{Step, use_switch, steps_of, placed, is_open, group_of, Need, unknown, duplicate, no_text, some_text, need, StepsFollow, PiecesFollow, Ends}
+use Rattle.just_tail.specs.Steps.{Step, use_switch, steps_of_piece, positionals_among, is_open, group_of, Need, unknown, duplicate, no_text, some_text, need, StepsFollow, PiecesFollow, Ends}
 use Rattle.just_tail.specs.Cause.{ArgumentFault, invalid_option, unknown_option, duplicate_option, flag_with_value, option_missing_value}
 use Rattle.just_errors.specs.declared.switch.Switch.{Switch}
 
@@ -14,10 +14,10 @@ pub record IsTail (ps : List Parameter) (tail after : Words) (found : ℕ) (grou
   pub pieces : List Piece
   pub whole : tail ≡ flat_map words_of pieces
   pub reads : PiecesFollow ps [] pieces
-  pub ends : Ends ps (flat_map steps_of pieces) after
-  pub counts : found ≡ placed (flat_map steps_of pieces)
+  pub ends : Ends ps (flat_map steps_of_piece pieces) after
+  pub counts : found ≡ positionals_among (flat_map steps_of_piece pieces)
   pub each_one : length groups ≡ length ps
-  pub each : (j : ℕ) → j < length ps → slice_index_or groups j [] ≡ group_of ps (flat_map steps_of pieces) j
+  pub each : (j : ℕ) → j < length ps → slice_index_or groups j [] ≡ group_of ps (flat_map steps_of_piece pieces) j
 
 -- the switch is refused: what it asks for, the switches after it, the `V` of `=V`, and the words after the option
 abbrev pub RefusesSwitch : Need → Switch → List Switch → Option Text → Words → ArgumentFault → Type 0
@@ -63,4 +63,4 @@ pub record NoTail (ps : List Parameter) (words : Words) (cause : ArgumentFault) 
   pub rest : Words
   pub whole : words ≡ flat_map words_of pieces ++ rest
   pub reads : PiecesFollow ps [] pieces
-  pub bad : BadOption ps (flat_map steps_of pieces) rest cause
+  pub bad : BadOption ps (flat_map steps_of_piece pieces) rest cause

@@ -10,8 +10,8 @@ abbrev pub Words : Type 0
 Words = List Text
 
 -- the groups of borrowed words, as texts
-abbrev pub shown : List (Vec (Bor Text) Global) → List Words
-shown groups = map (λ g. texts g.items) groups
+abbrev pub as_texts : List (Vec (Bor Text) Global) → List Words
+as_texts groups = map (λ g. texts g.items) groups
 
 -- the text that may be borrowed
 abbrev pub value_text : Option (Bor Text) → Option Text

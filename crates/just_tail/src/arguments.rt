@@ -2,8 +2,8 @@
 ghost use Rattle.std.specs.Prelude.{◌≤◌, IfOk, IfErr, IfSome, length, take, drop};
 ghost use Rattle.just_names.specs.Texts.{texts};
 ghost use Rattle.just_parts.specs.Evaluator.{count_fault_of};
-ghost use Rattle.just_tail.specs.Words.{shown};
-ghost use Rattle.just_tail.specs.Cause.{cause_of};
+ghost use Rattle.just_tail.specs.Words.{as_texts};
+ghost use Rattle.just_tail.specs.Cause.{tail_cause_of};
 ghost use Rattle.just_tail.specs.Checks.{TakesArguments, StopsTail};
 ghost use Rattle.just_tail.specs.Tail.{IsTail};
 
@@ -26,10 +26,12 @@ pub fn take_arguments<'src, 'words, E: ConstantEvaluation>(
     words: &[&'words str],
 ) -> Result<Tail<'words>, TailError<'src>>
     ensures within { IfOk result (λ t. t.taken ≤ length words.now) }
-    ensures tail { IfOk result (λ t. IsTail parameters.now (texts (take t.taken words.now)) (texts (drop t.taken words.now)) t.found (shown t.groups.items)) }
+    ensures tail { IfOk result (λ t. IsTail parameters.now (texts (take t.taken words.now)) (texts (drop t.taken words.now)) t.found
+        (as_texts t.groups.items)) }
     ensures ok { IfOk result (λ t. TakesArguments (count_fault_of (E.answers evaluation.now) recipe.now) parameters.now
-        (texts (take t.taken words.now)) (texts (drop t.taken words.now)) (shown t.groups.items)) }
-    ensures err { IfErr result (λ e. IfSome (cause_of e) (StopsTail (count_fault_of (E.answers evaluation.now) recipe.now) parameters.now (texts words.now))) }
+        (texts (take t.taken words.now)) (texts (drop t.taken words.now)) (as_texts t.groups.items)) }
+    ensures err { IfErr result (λ e. IfSome (tail_cause_of e)
+        (StopsTail (count_fault_of (E.answers evaluation.now) recipe.now) parameters.now (texts words.now))) }
 {
     let tail = match read_tail(alloc, parameters, words) {
         Ok(tail) => tail,

@@ -2,8 +2,8 @@
 ghost use Rattle.std.specs.Prelude.{◌≡◌, Some, None, IfOk, IfErr, IfSome, OnOk, length, option_map};
 ghost use Rattle.just_names.specs.Texts.{texts};
 ghost use Rattle.just_parts.specs.Evaluator.{count_fault_of};
-ghost use Rattle.just_tail.specs.Words.{shown};
-ghost use Rattle.just_tail.specs.Cause.{cause_of};
+ghost use Rattle.just_tail.specs.Words.{as_texts};
+ghost use Rattle.just_tail.specs.Cause.{tail_cause_of};
 ghost use Rattle.just_tail.specs.Reader.{switch_of};
 ghost use Rattle.just_tail.specs.Checks.{is_missing, missing_switch, named_by, first_missing, any_missing, least_positionals, most_positionals, lacking, wrong_count, matches, wrong_pattern, unfit, first_unfit};
 
@@ -51,7 +51,7 @@ fn first_missing<'a>(
     groups: &[Vec<&str>],
 ) -> Option<BorrowedSwitch<'a>>
     requires { length groups.now ≡ length parameters.now }
-    ensures { option_map switch_of result ≡ first_missing parameters.now (shown groups.now) }
+    ensures { option_map switch_of result ≡ first_missing parameters.now (as_texts groups.now) }
 {
     for (place, parameter) in parameters.iter().enumerate() {
         if let Some(switch) = missing_switch(parameter, &groups[place]) {
@@ -64,7 +64,7 @@ fn first_missing<'a>(
 // Whether some group is empty that may not be.
 fn any_missing(parameters: &[Parameter], groups: &[Vec<&str>]) -> bool
     requires { length groups.now ≡ length parameters.now }
-    ensures { result ≡ any_missing parameters.now (shown groups.now) }
+    ensures { result ≡ any_missing parameters.now (as_texts groups.now) }
 {
     for (place, parameter) in parameters.iter().enumerate() {
         if is_missing(parameter, &groups[place]) {
@@ -108,8 +108,8 @@ pub fn check_present<'src>(
     found: usize,
 ) -> Result<(), TailError<'src>>
     requires { length groups.now ≡ length parameters.now }
-    ensures ok { OnOk result (lacking parameters.now (shown groups.now) found ≡ None) }
-    ensures err { IfErr result (λ e. IfSome (cause_of e) (λ cause. lacking parameters.now (shown groups.now) found ≡ Some cause)) }
+    ensures ok { OnOk result (lacking parameters.now (as_texts groups.now) found ≡ None) }
+    ensures err { IfErr result (λ e. IfSome (tail_cause_of e) (λ cause. lacking parameters.now (as_texts groups.now) found ≡ Some cause)) }
 {
     if let Some(switch) = first_missing(parameters, groups) {
         return Err(TailError::MissingOption {
@@ -136,7 +136,7 @@ fn check_value_count<'src, E: ConstantEvaluation>(
 ) -> Result<(), TailError<'src>>
     ensures ok { OnOk result (wrong_count (count_fault_of (E.answers evaluation.now) recipe.now) parameter.now (texts group.now) ≡ None) }
     ensures err { let counts = count_fault_of (E.answers evaluation.now) recipe.now in
-        IfErr result (λ e. IfSome (cause_of e) (λ cause. wrong_count counts parameter.now (texts group.now) ≡ Some cause)) }
+        IfErr result (λ e. IfSome (tail_cause_of e) (λ cause. wrong_count counts parameter.now (texts group.now) ≡ Some cause)) }
 {
     match group {
         [] => return Ok(()),
@@ -168,7 +168,7 @@ fn check_pattern_match<'src>(
     group: &[&str],
 ) -> Result<(), TailError<'src>>
     ensures ok { OnOk result (wrong_pattern parameter.now (texts group.now) ≡ None) }
-    ensures err { IfErr result (λ e. IfSome (cause_of e) (λ cause. wrong_pattern parameter.now (texts group.now) ≡ Some cause)) }
+    ensures err { IfErr result (λ e. IfSome (tail_cause_of e) (λ cause. wrong_pattern parameter.now (texts group.now) ≡ Some cause)) }
 {
     for text in group {
         if !matches(parameter, alloc, text)? {
@@ -191,7 +191,7 @@ fn check_group<'src, E: ConstantEvaluation>(
 ) -> Result<(), TailError<'src>>
     ensures ok { OnOk result (unfit (count_fault_of (E.answers evaluation.now) recipe.now) parameter.now (texts group.now) ≡ None) }
     ensures err { let counts = count_fault_of (E.answers evaluation.now) recipe.now in
-        IfErr result (λ e. IfSome (cause_of e) (λ cause. unfit counts parameter.now (texts group.now) ≡ Some cause)) }
+        IfErr result (λ e. IfSome (tail_cause_of e) (λ cause. unfit counts parameter.now (texts group.now) ≡ Some cause)) }
 {
     if parameter.value.is_some() {
         return Ok(());
@@ -211,9 +211,9 @@ pub fn check_groups<'src, E: ConstantEvaluation>(
     groups: &[Vec<&str>],
 ) -> Result<(), TailError<'src>>
     requires { length groups.now ≡ length parameters.now }
-    ensures ok { OnOk result (first_unfit (count_fault_of (E.answers evaluation.now) recipe.now) parameters.now (shown groups.now) ≡ None) }
+    ensures ok { OnOk result (first_unfit (count_fault_of (E.answers evaluation.now) recipe.now) parameters.now (as_texts groups.now) ≡ None) }
     ensures err { let counts = count_fault_of (E.answers evaluation.now) recipe.now in
-        IfErr result (λ e. IfSome (cause_of e) (λ cause. first_unfit counts parameters.now (shown groups.now) ≡ Some cause)) }
+        IfErr result (λ e. IfSome (tail_cause_of e) (λ cause. first_unfit counts parameters.now (as_texts groups.now) ≡ Some cause)) }
 {
     for (place, parameter) in parameters.iter().enumerate() {
         match check_group(parameter, alloc, evaluation, recipe, &groups[place]) {

@@ -1,6 +1,6 @@
 //! Groups of words, one for each parameter.
 ghost use Rattle.std.specs.Prelude.{◌≡◌, ◌<◌, ◌++◌, ◌∷◌, [], ℕ, IfOk, OnOk, length, slice_set, slice_index_or, vec_len};
-ghost use Rattle.just_tail.specs.Words.{shown};
+ghost use Rattle.just_tail.specs.Words.{as_texts};
 
 use just_ast_definitions::Parameter;
 use std::alloc::{AllocError, Global};
@@ -10,8 +10,8 @@ pub fn empty_groups<'words>(
     alloc: Global,
     parameters: &[Parameter],
 ) -> Result<Vec<Vec<&'words str>>, AllocError>
-    ensures count { IfOk result (λ groups. length (shown groups.items) ≡ length parameters.now) }
-    ensures each { IfOk result (λ groups. (j : ℕ) → slice_index_or (shown groups.items) j [] ≡ []) }
+    ensures count { IfOk result (λ groups. length (as_texts groups.items) ≡ length parameters.now) }
+    ensures each { IfOk result (λ groups. (j : ℕ) → slice_index_or (as_texts groups.items) j [] ≡ []) }
 {
     let mut groups = Vec::new(alloc);
     for _ in parameters {
@@ -27,8 +27,8 @@ pub fn push_at<'words>(
     text: &'words str,
 ) -> Result<(), AllocError>
     requires { place < vec_len groups.old }
-    ensures { OnOk result (shown groups.new.items
-        ≡ slice_set (shown groups.old.items) place (slice_index_or (shown groups.old.items) place [] ++ text.now ∷ [])) }
+    ensures { OnOk result (as_texts groups.new.items
+        ≡ slice_set (as_texts groups.old.items) place (slice_index_or (as_texts groups.old.items) place [] ++ text.now ∷ [])) }
 {
     groups[place].push(text)?;
     Ok(())

@@ -7,7 +7,7 @@ ghost use Rattle.just_tail.specs.Words.{Words, value_text};
 ghost use Rattle.just_tail.specs.Options.{option_of};
 ghost use Rattle.just_tail.specs.Pieces.{OptionName, cluster, letters, Supplied, value_of, next_of, with_value, option_word, has_equals, is_dashed, IsOptionName, switches_of};
 ghost use Rattle.just_tail.specs.Steps.{asks, use_switch, give, may_use, need, FitsNeed, StepsFollow};
-ghost use Rattle.just_tail.specs.Cause.{invalid_option, cause_of};
+ghost use Rattle.just_tail.specs.Cause.{invalid_option, tail_cause_of};
 ghost use Rattle.just_tail.specs.Tail.{RefusesSwitch, Refused, BadOption, given_nothing};
 ghost use Rattle.just_tail.specs.Reader.{switch_of, IsTailPlan, HasRead, HoldsAfter, HoldsOpen};
 
@@ -79,7 +79,7 @@ fn find_option<'src>(
     ensures place { IfOk result (λ found. (p : Record) × (option_of plan.now.parameters.now (switch_of switch.entry) ≡ Some (found.0, p))) }
     ensures ok { let ps = plan.now.parameters.now in IfOk result (λ found. HoldsAfter ps progress.now (λ before.
         need ps before (switch_of switch.entry) ≡ asks found.1)) }
-    ensures err { let ps = plan.now.parameters.now in IfErr result (λ e. IfSome (cause_of e) (λ cause. HoldsAfter ps progress.now (λ before.
+    ensures err { let ps = plan.now.parameters.now in IfErr result (λ e. IfSome (tail_cause_of e) (λ cause. HoldsAfter ps progress.now (λ before.
         (after : List Named) (value : Option Name) (rest : Words)
         → RefusesSwitch (need ps before (switch_of switch.entry)) (switch_of switch.entry) after value rest cause))) }
 {
@@ -114,7 +114,7 @@ fn apply<'src, 'words>(
         × (value_of g ≡ value_text value.entry) × (next_of g ≡ texts (take n rest.now))
         × FitsNeed (need ps before (switch_of switch.entry)) g
         × HasRead ps (before ++ use_switch (switch_of switch.entry) g ∷ []) progress.new)) }
-    ensures err { let ps = plan.now.parameters.now in IfErr result (λ e. IfSome (cause_of e) (λ cause. HoldsAfter ps progress.old (λ before.
+    ensures err { let ps = plan.now.parameters.now in IfErr result (λ e. IfSome (tail_cause_of e) (λ cause. HoldsAfter ps progress.old (λ before.
         RefusesSwitch (need ps before (switch_of switch.entry)) (switch_of switch.entry) [] (value_text value.entry) (texts rest.now) cause))) }
 {
     let (place, takes_nothing) = find_option(plan, alloc, progress, switch)?;
@@ -162,7 +162,7 @@ fn apply_front<'src>(
     ensures placed { OnOk result (progress.new.placed ≡ progress.old.placed) }
     ensures ok { let ps = plan.now.parameters.now in OnOk result (HoldsOpen ps progress.old (λ before.
         StepsFollow ps before (given_nothing (letters front.now)) × HasRead ps (before ++ given_nothing (letters front.now)) progress.new)) }
-    ensures err { let ps = plan.now.parameters.now in IfErr result (λ e. IfSome (cause_of e) (λ cause. HoldsOpen ps progress.old (λ before.
+    ensures err { let ps = plan.now.parameters.now in IfErr result (λ e. IfSome (tail_cause_of e) (λ cause. HoldsOpen ps progress.old (λ before.
         (after : List Named) (value : Option Name) (rest : Words) → after ≢ []
         → Refused ps before (letters front.now ++ after) value rest cause))) }
 {
@@ -202,7 +202,7 @@ fn read_cluster<'src, 'words>(
         × (value_of g ≡ value_text value.entry) × (next_of g ≡ texts (take n rest.now))
         × StepsFollow ps before (give (switches_of (cluster name.now)) g)
         × HasRead ps (before ++ give (switches_of (cluster name.now)) g) progress.new)) }
-    ensures err { let ps = plan.now.parameters.now in IfErr result (λ e. IfSome (cause_of e) (λ cause. HoldsOpen ps progress.old (λ before.
+    ensures err { let ps = plan.now.parameters.now in IfErr result (λ e. IfSome (tail_cause_of e) (λ cause. HoldsOpen ps progress.old (λ before.
         Refused ps before (switches_of (cluster name.now)) (value_text value.entry) (texts rest.now) cause))) }
 {
     let characters = characters(alloc, name)?;
@@ -225,7 +225,7 @@ fn read_cluster<'src, 'words>(
 
 // Why a word with an empty name is refused.
 fn invalid_option<'src>(alloc: Global, word: &str) -> TailError<'src>
-    ensures { IfSome (cause_of result) (λ cause. cause ≡ invalid_option word.now) }
+    ensures { IfSome (tail_cause_of result) (λ cause. cause ≡ invalid_option word.now) }
 {
     match Text::from_str(alloc, word) {
         Ok(argument) => TailError::InvalidOption { argument },
@@ -252,7 +252,7 @@ pub fn read_option<'src, 'words>(
         × IsOptionName name × (word.now ≡ option_word name (value_of g)) × (next_of g ≡ texts (take n rest.now))
         × StepsFollow ps before (give (switches_of name) g)
         × HasRead ps (before ++ give (switches_of name) g) progress.new)) }
-    ensures err { let ps = plan.now.parameters.now in IfErr result (λ e. IfSome (cause_of e) (λ cause. HoldsOpen ps progress.old (λ before.
+    ensures err { let ps = plan.now.parameters.now in IfErr result (λ e. IfSome (tail_cause_of e) (λ cause. HoldsOpen ps progress.old (λ before.
         BadOption ps before (word.now ∷ texts rest.now) cause))) }
 {
     let Some(short) = strip_dash(word) else {

@@ -1,10 +1,10 @@
 //! The tail with which words begin.
 ghost use Rattle.std.specs.Prelude.{◌≡◌, ◌<◌, ◌≤◌, ◌+◌, ◌^◌, IfOk, IfErr, IfSome, ◌++◌, length, take, drop, vec_len};
 ghost use Rattle.just_names.specs.Texts.{texts};
-ghost use Rattle.just_tail.specs.Words.{shown};
+ghost use Rattle.just_tail.specs.Words.{as_texts};
 ghost use Rattle.just_tail.specs.Pieces.{Piece, words_of, HasOptionName};
-ghost use Rattle.just_tail.specs.Steps.{steps_of, StepsFollow, Ends};
-ghost use Rattle.just_tail.specs.Cause.{cause_of};
+ghost use Rattle.just_tail.specs.Steps.{steps_of_piece, StepsFollow, Ends};
+ghost use Rattle.just_tail.specs.Cause.{tail_cause_of};
 ghost use Rattle.just_tail.specs.Tail.{IsTail, NoTail, BadOption};
 ghost use Rattle.just_tail.specs.Reader.{IsTailPlan, HasRead, HoldsAfter};
 
@@ -51,9 +51,9 @@ fn read_piece<'src, 'words>(
     ensures ended { let ps = plan.now.parameters.now in IfOk result (λ n. n ≡ 0 → HoldsAfter ps progress.old (λ before.
         Ends ps before (texts words.now) × (progress.new ≡ progress.old))) }
     ensures piece { let ps = plan.now.parameters.now in IfOk result (λ n. 0 < n → HoldsAfter ps progress.old (λ before. (x : Piece)
-        × HasOptionName x × StepsFollow ps before (steps_of x) × (texts (take n words.now) ≡ words_of x)
-        × HasRead ps (before ++ steps_of x) progress.new)) }
-    ensures err { let ps = plan.now.parameters.now in IfErr result (λ e. IfSome (cause_of e) (λ cause. HoldsAfter ps progress.old (λ before.
+        × HasOptionName x × StepsFollow ps before (steps_of_piece x) × (texts (take n words.now) ≡ words_of x)
+        × HasRead ps (before ++ steps_of_piece x) progress.new)) }
+    ensures err { let ps = plan.now.parameters.now in IfErr result (λ e. IfSome (tail_cause_of e) (λ cause. HoldsAfter ps progress.old (λ before.
         BadOption ps before (texts words.now) cause))) }
 {
     let Some((word, rest)) = words.split_first() else {
@@ -90,8 +90,9 @@ pub fn read_tail<'src, 'words>(
     words: &[&'words str],
 ) -> Result<Tail<'words>, TailError<'src>>
     ensures within { IfOk result (λ t. t.taken ≤ length words.now) }
-    ensures tail { IfOk result (λ t. IsTail parameters.now (texts (take t.taken words.now)) (texts (drop t.taken words.now)) t.found (shown t.groups.items)) }
-    ensures err { IfErr result (λ e. IfSome (cause_of e) (NoTail parameters.now (texts words.now))) }
+    ensures tail { IfOk result (λ t. IsTail parameters.now (texts (take t.taken words.now)) (texts (drop t.taken words.now)) t.found
+        (as_texts t.groups.items)) }
+    ensures err { IfErr result (λ e. IfSome (tail_cause_of e) (NoTail parameters.now (texts words.now))) }
 {
     let plan = Plan::new(alloc, parameters)?;
     let mut progress = Progress::new(alloc, parameters)?;

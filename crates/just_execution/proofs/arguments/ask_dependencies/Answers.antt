@@ -6,7 +6,7 @@ use Rattle.just_recipe.specs.declared.dependency.Dependency.{Dependency}
 use Rattle.just_run_layers.specs.Covering.{module_of}
 use Rattle.just_run_layers.proofs.InteractionLemmas.{exited, keeps-self, keeps-then}
 use Rattle.just_execution.specs.Arguments.{AreReadableGroups, IsGivenIn, dependencies_steps, dependency_steps, tasks_with}
-use Rattle.just_execution.specs.Frames.{items_of}
+use Rattle.just_execution.specs.Frames.{items_of_frames}
 use Rattle.just_execution.specs.TaskInteractions.{AsksAlone, surrounded}
 use Rattle.just_execution.specs.Scene.{contents_of}
 use Rattle.just_execution.specs.declared.task.Task.{Task}
@@ -62,7 +62,7 @@ returns-in_err-groups-clause-took g c =
     let e = g.E.Evaluation.promised c.args.evaluation.now in
     let before = g.E.Evaluation.requests c.args.evaluation.now in
     let d = g.E.Evaluation.promised c.loop-dependency.evaluation in
-    subst (AsksAlone e (dependencies_steps rs s c.args.dependencies.now) before _) (sym (ap items_of (exited c.from_residual.result c.in_err-groups.field-0.0 (search rules))))
+    subst (AsksAlone e (dependencies_steps rs s c.args.dependencies.now) before _) (sym (ap items_of_frames (exited c.from_residual.result c.in_err-groups.field-0.0 (search rules))))
     (gathered-stop (dependency_steps rs s) c.args.dependencies.now e before d _ _ c.loop-dependency.tasks.items c.loop-dependency.dependency-index x c.loop-dependency-test.true c.dependency-item.is c.loop-dependency.invariant.rest
     c.in_err-groups.field-0.0 (dependency-failed rs s x c.as_slice-given.result.now c.as_slice-given.ensures d _ _ c.in_err-groups.field-0.0 c.in_err-groups.ensures.took))
 
@@ -75,7 +75,7 @@ returns-in_err-push_tasks-clause-took g c =
     let before = g.E.Evaluation.requests c.args.evaluation.now in
     let d = g.E.Evaluation.promised c.loop-dependency.evaluation in
     let o = g.E.Evaluation.promised c.ask_groups.new.evaluation in
-    subst (AsksAlone e (dependencies_steps rs s c.args.dependencies.now) before _) (sym (ap items_of (exited c.from_residual-in_err-push_tasks.result Memory (search rules))))
+    subst (AsksAlone e (dependencies_steps rs s c.args.dependencies.now) before _) (sym (ap items_of_frames (exited c.from_residual-in_err-push_tasks.result Memory (search rules))))
     (gathered-out (dependency_steps rs s) c.args.dependencies.now e before d _ _ c.loop-dependency.tasks.items c.loop-dependency.dependency-index x c.loop-dependency-test.true c.dependency-item.is c.loop-dependency.invariant.rest o
     c.in_ok-groups.ensures.keeps (tasks_with rs x c.in_ok-groups.groups) (dependency-given rs s x c.as_slice-given.result.now c.as_slice-given.ensures d _ _ c.in_ok-groups.groups c.in_ok-groups.ensures.took))
 

@@ -1,6 +1,6 @@
 use Rattle.just_run_layers.specs.Covering.{module_of}
 use Rattle.just_execution.specs.Arguments.{IsGivenIn}
-use Rattle.just_execution.specs.Frames.{items_of}
+use Rattle.just_execution.specs.Frames.{items_of_frames}
 use Rattle.just_execution.proofs.Covered.{arguments-given}
 use Rattle.just_execution.proofs.Homes.{home-of, serves-in}
 use Rattle.just_execution.proofs.Lone.{running-subsequents}
@@ -31,4 +31,4 @@ returns-clause-took g c =
     let m = c.module_of-home.result.now in
     followed-as answers c.args.scopes.now.modules b rs c.args.task.now r m c.recipe_at.ensures c.module_of-home.ensures.there
     (g.E.Evaluation.promised c.args.evaluation.now) c.args.held.now _ _ c.subsequents_in-named.result.now
-    (subsequents-seen answers c.args.scopes.now.modules b rs c.args.task.now r m c.recipe_at.ensures c.module_of-home.ensures.there c.subsequents_in-named.result.now c.subsequents_in-named.ensures.is) (items_of c.ask_dependencies.result) c.ask_dependencies.ensures.took
+    (subsequents-seen answers c.args.scopes.now.modules b rs c.args.task.now r m c.recipe_at.ensures c.module_of-home.ensures.there c.subsequents_in-named.result.now c.subsequents_in-named.ensures.is) (items_of_frames c.ask_dependencies.result) c.ask_dependencies.ensures.took

@@ -1,8 +1,6 @@
-use Rattle.std.proofs.Common.{◌≡◌, ◌∙◌, Ok, Err, map, refl, ap, sym, rules}
+use Rattle.std.proofs.Common.{◌≡◌, ◌∙◌, Ok, map, refl, ap, rules}
 use Rattle.std.specs.HashSet.{contains}
-use Rattle.just_errors.specs.declared.halt.Halt.TheVariants.{Memory}
 use Rattle.just_parts.specs.Needs.{same_number}
-use Rattle.just_run_layers.specs.Interactions.{log_of}
 use Rattle.just_scopes.specs.Opening.{handed_of, opened_of}
 use Rattle.just_evaluate.specs.Lines.{evaluated_text}
 use Rattle.just_invoke.specs.Evaluation.{text_in, values_behind}

@@ -1,12 +1,11 @@
-use Rattle.std.proofs.Common.{◌≡◌, Result, Ok, Err, refl, sym, subst, rules}
+use Rattle.std.proofs.Common.{◌≡◌, Ok, Err, refl, rules}
 use Rattle.std.specs.Option.{option_copied}
 use Rattle.just_errors.specs.Halts.{error_of}
 use Rattle.just_errors.specs.declared.halt.Halt.{Halt}
 use Rattle.just_justfile.specs.Closed.{is_ordered}
-use Rattle.just_names.specs.Texts.{Text}
 use Rattle.just_run_layers.specs.Interactions.{log_of}
 use Rattle.just_scopes.specs.Opening.{handed_of}
-use Rattle.just_invoke.specs.Evaluation.{IsAnsweredFor, LeadsToValues, refused, values_behind, writer_of}
+use Rattle.just_invoke.specs.Evaluation.{LeadsToValues, refused, values_behind, writer_of}
 use Rattle.just_invoke.proofs.Evaluations.{evaluated-so, expected-so, leads-nowhere}
 use Rattle.just_invoke.proofs.evaluate_run.run_evaluate.Goals as goal
 

@@ -9,7 +9,7 @@ use Rattle.just_names.specs.Texts.{Text}
 use Rattle.just_names.specs.Token.{lexeme}
 use Rattle.just_names.specs.declared.number.Number.{Number}
 use Rattle.just_recipe.specs.Recipes.{find_number}
-use Rattle.just_justfile.specs.Closed.{name_of}
+use Rattle.just_justfile.specs.Closed.{resolved_name}
 use Rattle.just_listings.specs.Shown.{alias_shown, stands_after}
 use Rattle.just_listings.proofs.Gaps.{AreWritten, none_found, one_found, one_written}
 use Rattle.just_listings.proofs.shown_justfile.write_aliases.Goals as goal
@@ -19,7 +19,7 @@ loop-alias-preserved-in_default g c =
     let took = g.W.Write.write_str_gives in
     let now : Bor (Alias Number) → Alias Number = λ a. a.now in
     let leads : find_number c.args.recipes.now c.in-Some.alias.now.target.0 ≡ None = search rules in
-    let none : alias_shown c.args.recipes.now c.in-Some.alias.now ≡ None = ap (λ o. alias_text (lexeme c.in-Some.alias.now.name.token) (option_map name_of o)) leads in
+    let none : alias_shown c.args.recipes.now c.in-Some.alias.now ≡ None = ap (λ o. alias_text (lexeme c.in-Some.alias.now.name.token) (option_map resolved_name o)) leads in
     subst (λ (texts : List Text). AreWritten took c.args.f.now c.args.begun.now texts c.loop-alias.f c.loop-alias.begun)
     (sym (none_found (alias_shown c.args.recipes.now) now c.loop-alias.yielded c.in-Some.alias none)) c.loop-alias.invariant
 
@@ -29,8 +29,8 @@ loop-alias-preserved g c =
     let now : Bor (Alias Number) → Alias Number = λ a. a.now in
     let recipe = c.in-Some-get.recipe.now in
     let leads : find_number c.args.recipes.now c.in-Some.alias.now.target.0 ≡ Some recipe = search rules in
-    let text : Text = codes "alias " ++ (lexeme c.in-Some.alias.now.name.token ++ (codes " := " ++ name_of recipe)) in
-    let some : alias_shown c.args.recipes.now c.in-Some.alias.now ≡ Some text = ap (λ o. alias_text (lexeme c.in-Some.alias.now.name.token) (option_map name_of o)) leads in
+    let text : Text = codes "alias " ++ (lexeme c.in-Some.alias.now.name.token ++ (codes " := " ++ resolved_name recipe)) in
+    let some : alias_shown c.args.recipes.now c.in-Some.alias.now ≡ Some text = ap (λ o. alias_text (lexeme c.in-Some.alias.now.name.token) (option_map resolved_name o)) leads in
     one_written took c.args.f.now c.args.begun.now (filter_map (alias_shown c.args.recipes.now) (map now c.loop-alias.yielded)) (filter_map (alias_shown c.args.recipes.now) (map now (c.loop-alias.yielded ++ c.in-Some.alias ∷ []))) text
     c.loop-alias.f c.write_next.new.f c.loop-alias.begun c.write_next.new.begun (one_found (alias_shown c.args.recipes.now) now c.loop-alias.yielded c.in-Some.alias text some) c.loop-alias.invariant
     (λ plain. c.in_ok-write_next.ensures.text plain refl) c.in_ok-write_next.ensures.begun

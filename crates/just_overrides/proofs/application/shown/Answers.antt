@@ -1,7 +1,7 @@
 use Rattle.std.proofs.Common.{◌≡◌, ◌∙◌, ◌++◌, ◌∷◌, [], ap}
 use Rattle.std.specs.Prelude.{string_bytes}
 use Rattle.std.proofs.lemmas.Result.{IfOk-weaker}
-use Rattle.just_module_tree.specs.Overrides.{shown as shown_key}
+use Rattle.just_module_tree.specs.Overrides.{shown_key}
 use Rattle.just_names.specs.Texts.{Text, text_of}
 use Rattle.just_overrides.proofs.application.shown.Goals as goal
 

@@ -6,7 +6,7 @@ use Rattle.std.specs.Str.{bytes_eq}
 use Rattle.just_ast_expressions.specs.declared.expression.Expression.{Expression}
 use Rattle.just_ast_references.specs.Numbers.{with_numbers}
 use Rattle.just_recipe.specs.Script.{is_script}
-use Rattle.just_recipe_names.specs.Numbered.{dependency_by, line_by, named_by, number_under, parameter_number, shell_lines_by, under}
+use Rattle.just_recipe_names.specs.Numbered.{dependency_by, line_by, attribute_with, number_under, parameter_number, shell_lines_by, under}
 use Rattle.just_recipe_names.proofs.numbers.numbered_parts.Goals as goal
 
 pub returns-clause-attributes : goal.returns-clause-attributes
@@ -15,7 +15,7 @@ returns-clause-attributes g c =
     let variable = get bytes_eq c.args.bindings.now in
     let r = c.args.recipe.now in
     c.in_ok-attributes.ensures
-    ∙ (λ k. map (named_by
+    ∙ (λ k. map (attribute_with
     (with_numbers (λ name. option_or (lookup (bytes_eq name) (c.new-none.ensures.empty k)) (option_or (variable name) (answers.constant name))))
     (with_numbers (λ name. option_or ((c.in_ok-all.ensures name ∙ ap (λ ps. parameter_number ps name) c.as_slice.ensures) k) (option_or (variable name) (answers.constant name)))))
     (c.as_slice-2.ensures k))

@@ -2,7 +2,7 @@ use Rattle.std.proofs.Common.{◌≡◌, ◌∙◌, [], None, Ok, Err, sym, subs
 use Rattle.just_errors.specs.declared.halt.Halt.TheVariants.{Memory}
 use Rattle.std.specs.HashSet.{contains}
 use Rattle.just_parts.specs.Needs.{IsClosed, has_number, same_number}
-use Rattle.just_justfile.specs.Running.{known_of}
+use Rattle.just_justfile.specs.Running.{known_by_tables}
 use Rattle.just_run_layers.specs.Evaluation.{config_contents, in_set, set_of}
 use Rattle.just_run_layers.specs.Interactions.{HasTrace, both, log_of}
 use Rattle.just_scopes.specs.Opening.{handed_of, open_steps, opened_as}
@@ -40,7 +40,7 @@ returns-in_err-set-clause-took g c = λ sets found.
 pub ask_scope-requires-clause-closed : goal.ask_scope-requires-clause-closed
 ask_scope-requires-clause-closed g c =
     let same : set_of c.as_ref.result ≡ set_in c.in_ok-set.set = search rules in
-    subst (λ s. IsClosed (known_of c.args.entry.now.justfile.now) (has_number c.args.overrides.now) (in_set s)) (sym same) (set-closed c.in_ok-set.ensures c.requires)
+    subst (λ s. IsClosed (known_by_tables c.args.entry.now.justfile.now) (has_number c.args.overrides.now) (in_set s)) (sym same) (set-closed c.in_ok-set.ensures c.requires)
 
 pub returns-in_err-scope-clause-nothing_runs : goal.returns-in_err-scope-clause-nothing_runs
 returns-in_err-scope-clause-nothing_runs g c =

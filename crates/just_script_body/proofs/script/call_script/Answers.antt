@@ -8,7 +8,7 @@ use Rattle.just_run_layers.specs.Host.{Answer, Ran}
 use Rattle.just_run_layers.specs.Interactions.{Return, Question, both}
 use Rattle.just_run_layers.proofs.InteractionLemmas.{took-called, took-stop}
 use Rattle.just_recipe_body.specs.Attributes.{continues_on}
-use Rattle.just_recipe_body.specs.Body.{BodyContents, contents_of, given}
+use Rattle.just_recipe_body.specs.Body.{BodyContents, contents_of, concluded}
 use Rattle.just_recipe_body.specs.Judging.{judged, no_marks}
 use Rattle.just_recipe_body.specs.declared.judgement.Next.{Next}
 use Rattle.just_recipe_body.specs.declared.judgement.Program.TheVariants as program
@@ -30,7 +30,7 @@ returns-in-Ok-clause-took g c = λ e requests.
     let is : o ≡ Ok c.in-Ok.field-0 = as-judged b c.teller_of-teller.result c.in_ok-answer.answer c.judge.result c.judge.ensures c.teller_of-teller.ensures ∙ c.in-Ok.is in
     took-called e (g.H.Host.promised c.args.host.now) (Script c.args.call.now) (script_answered b) (Ran c.in_ok-answer.answer) requests _ _ _ _
     c.in_ok-answer.ensures.answers c.in_ok-answer.ensures.recorded
-    (took-map p (given o) (λ next. tt) _ _ c.in-Ok.field-0 (took-given p _ c.in-Ok.field-0 o is))
+    (took-map p (concluded o) (λ next. tt) _ _ c.in-Ok.field-0 (took-given p _ c.in-Ok.field-0 o is))
 
 pub returns-in-Err-clause-took : goal.returns-in-Err-clause-took
 returns-in-Err-clause-took g c = λ e requests.
@@ -40,4 +40,4 @@ returns-in-Err-clause-took g c = λ e requests.
     let is : o ≡ Err c.in-Err.error = as-judged b c.teller_of-teller.result c.in_ok-answer.answer c.judge.result c.judge.ensures c.teller_of-teller.ensures ∙ c.in-Err.is in
     took-called e (g.H.Host.promised c.args.host.now) (Script c.args.call.now) (script_answered b) (Ran c.in_ok-answer.answer) requests _ _ _ _
     c.in_ok-answer.ensures.answers c.in_ok-answer.ensures.recorded
-    (took-stop p (given o) (λ next. Return tt) _ _ (Failed c.in-Err.error) (took-refused p _ c.in-Err.error o is))
+    (took-stop p (concluded o) (λ next. Return tt) _ _ (Failed c.in-Err.error) (took-refused p _ c.in-Err.error o is))

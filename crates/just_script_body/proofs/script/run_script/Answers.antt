@@ -5,7 +5,7 @@ use Rattle.just_run_layers.specs.Interactions.{Question, Interaction, and_then, 
 use Rattle.just_run_layers.proofs.InteractionLemmas.{keeps-then, keeps-self, keeps-both, took-then}
 use Rattle.just_recipe_body.specs.Body.{BodyContents, contents_of}
 use Rattle.just_recipe_body.proofs.StepEnds.{took-exit}
-use Rattle.just_script_body.specs.ScriptBody.{begin_steps, is_shown, show_if_steps, shown_steps, texts_steps, unless_dry_steps}
+use Rattle.just_script_body.specs.ScriptBody.{heading_steps, is_shown, show_if_steps, shown_steps, texts_steps, unless_dry_steps}
 use Rattle.just_script_body.proofs.script.run_script.Goals as goal
 
 abbrev next : BodyContents → Unit {0} → Interaction (Unit {0})
@@ -34,7 +34,7 @@ returns-in_err-begin-clause-took g c =
     let p : Question → Option Answer = both (g.E.Evaluation.promised c.args.evaluation.now) (g.H.Host.promised c.args.host.now) in
     let b : BodyContents = contents_of (g.S.Syntax.answers c.args.body.now.syntax.now) c.args.body.now in
     let r = c.from_residual.result in
-    took-exit p (begin_steps b) (next b) _ _ c.in_err-begin.field-0.0 r c.from_residual.ensures.1 c.in_err-begin.ensures.took
+    took-exit p (heading_steps b) (next b) _ _ c.in_err-begin.field-0.0 r c.from_residual.ensures.1 c.in_err-begin.ensures.took
 
 pub returns-in_err-texts-clause-took : goal.returns-in_err-texts-clause-took
 returns-in_err-texts-clause-took g c =
@@ -43,7 +43,7 @@ returns-in_err-texts-clause-took g c =
     let q : Question → Option Answer = both (g.E.Evaluation.promised c.begin.new.evaluation) h in
     let b : BodyContents = contents_of (g.S.Syntax.answers c.args.body.now.syntax.now) c.args.body.now in
     let r = c.from_residual-in_err-texts.result in
-    took-then p q (keeps-both _ _ _ _ c.in_ok-begin.ensures.keeps c.in_ok-begin.ensures.keeps_host) (begin_steps b) (next b) _ _ _ tt r c.in_ok-begin.ensures.took
+    took-then p q (keeps-both _ _ _ _ c.in_ok-begin.ensures.keeps c.in_ok-begin.ensures.keeps_host) (heading_steps b) (next b) _ _ _ tt r c.in_ok-begin.ensures.took
     (took-exit q (texts_steps b b.recipe.body) (shown_steps b) _ _ c.in_err-texts.field-0.0 r c.from_residual-in_err-texts.ensures.1 (rw c.as_slice.ensures at (c.in_err-texts.ensures.took h (g.H.Host.entries c.begin.new.host))))
 
 pub returns-in_err-show_if-clause-took : goal.returns-in_err-show_if-clause-took
@@ -56,7 +56,7 @@ returns-in_err-show_if-clause-took g c =
     let b : BodyContents = contents_of (g.S.Syntax.answers c.args.body.now.syntax.now) c.args.body.now in
     let texts : List Text = c.in_ok-texts.texts in
     let r = c.from_residual-in_err-show_if.result in
-    took-then p q (keeps-both _ _ _ _ c.in_ok-begin.ensures.keeps c.in_ok-begin.ensures.keeps_host) (begin_steps b) (next b) _ _ _ tt r c.in_ok-begin.ensures.took
+    took-then p q (keeps-both _ _ _ _ c.in_ok-begin.ensures.keeps c.in_ok-begin.ensures.keeps_host) (heading_steps b) (next b) _ _ _ tt r c.in_ok-begin.ensures.took
     (took-then q o (keeps-both _ _ h h c.in_ok-texts.ensures.keeps (keeps-self h)) (texts_steps b b.recipe.body) (shown_steps b) _ _ _ texts r (rw c.as_slice.ensures at (c.in_ok-texts.ensures.took h (g.H.Host.entries c.begin.new.host)))
     (took-exit o (show_if_steps (is_shown b) texts) (λ _. unless_dry_steps b texts) _ _ c.in_err-show_if.field-0.0 r c.from_residual-in_err-show_if.ensures.1
     (rw c.is_shown.ensures at (c.in_err-show_if.ensures.took e (g.E.Evaluation.requests c.ask_texts.new.evaluation)))))
@@ -72,7 +72,7 @@ returns-clause-took g c =
     let b : BodyContents = contents_of (g.S.Syntax.answers c.args.body.now.syntax.now) c.args.body.now in
     let texts : List Text = c.in_ok-texts.texts in
     let r = c.run_unless_dry.result in
-    took-then p q (keeps-both _ _ _ _ c.in_ok-begin.ensures.keeps c.in_ok-begin.ensures.keeps_host) (begin_steps b) (next b) _ _ _ tt r c.in_ok-begin.ensures.took
+    took-then p q (keeps-both _ _ _ _ c.in_ok-begin.ensures.keeps c.in_ok-begin.ensures.keeps_host) (heading_steps b) (next b) _ _ _ tt r c.in_ok-begin.ensures.took
     (took-then q o (keeps-both _ _ h h c.in_ok-texts.ensures.keeps (keeps-self h)) (texts_steps b b.recipe.body) (shown_steps b) _ _ _ texts r (rw c.as_slice.ensures at (c.in_ok-texts.ensures.took h (g.H.Host.entries c.begin.new.host)))
     (took-then o m (keeps-both e e _ _ (keeps-self e) c.in_ok-show_if.ensures.keeps) (show_if_steps (is_shown b) texts) (λ _. unless_dry_steps b texts) _ _ _ tt r
     (rw c.is_shown.ensures at (c.in_ok-show_if.ensures.took e (g.E.Evaluation.requests c.ask_texts.new.evaluation)))

@@ -6,14 +6,14 @@ use Rattle.just_run_layers.specs.Host.{Answer}
 use Rattle.just_run_layers.specs.Interactions.{Return, Question, Interaction, both, log_of}
 use Rattle.just_run_layers.proofs.InteractionLemmas.{keeps-self, keeps-both, took-then, took-give}
 use Rattle.just_recipe_body.specs.Body.{BodyContents, contents_of}
-use Rattle.just_shell_body.specs.Lines.{command_of, text_steps}
+use Rattle.just_shell_body.specs.Lines.{command_of_group, lines_text_steps}
 use Rattle.just_shell_body.specs.declared.lines.GroupCommand.{GroupCommand}
 use Rattle.just_shell_body.proofs.ShellLemmas.{begins-first, group-bound, of-group, of-skipped}
 use Rattle.just_recipe_body.proofs.StepEnds.{took-exit, took-gone}
 use Rattle.just_shell_body.proofs.lines.ask_command.Goals as goal
 
 abbrev next : BodyContents → Line → List Line → Text → Interaction (Option GroupCommand)
-next b line lines text = Return (command_of (b.syntax.sigils line b.context.settings) line lines text)
+next b line lines text = Return (command_of_group (b.syntax.sigils line b.context.settings) line lines text)
 
 pub ask_text-requires : goal.ask_text-requires
 ask_text-requires g c =
@@ -42,7 +42,7 @@ returns-in_err-text-clause-took g c = λ h entries.
     let rest : List Line = c.in-Some.rest.now in
     let r = c.from_residual.result in
     of-group p b line rest c.args.lines.now _ _ r c.in-Some.ensures.cases.0 (sym c.is_skipped.ensures ∙ c.if-is_skipped.false)
-    (took-exit p (text_steps b false [] c.args.lines.now) (next b line rest) _ _ c.in_err-text.field-0.0 r c.from_residual.ensures.1 (c.in_err-text.ensures.took h entries))
+    (took-exit p (lines_text_steps b false [] c.args.lines.now) (next b line rest) _ _ c.in_err-text.field-0.0 r c.from_residual.ensures.1 (c.in_err-text.ensures.took h entries))
 
 pub returns-in_err-sigils-clause-took : goal.returns-in_err-sigils-clause-took
 returns-in_err-sigils-clause-took g c = λ h entries.
@@ -53,7 +53,7 @@ returns-in_err-sigils-clause-took g c = λ h entries.
     let rest : List Line = c.in-Some.rest.now in
     let r = c.from_residual-in_err-sigils.result in
     of-group p b line rest c.args.lines.now _ _ r c.in-Some.ensures.cases.0 (sym c.is_skipped.ensures ∙ c.if-is_skipped.false)
-    (took-then p q (keeps-both _ _ h h c.in_ok-text.ensures.keeps (keeps-self h)) (text_steps b false [] c.args.lines.now) (next b line rest) _ _ _ c.in_ok-text.text r (c.in_ok-text.ensures.took h entries)
+    (took-then p q (keeps-both _ _ h h c.in_ok-text.ensures.keeps (keeps-self h)) (lines_text_steps b false [] c.args.lines.now) (next b line rest) _ _ _ c.in_ok-text.text r (c.in_ok-text.ensures.took h entries)
     (took-gone q (next b line rest c.in_ok-text.text) (log_of entries (g.E.Evaluation.requests c.ask_text.new.evaluation)) _ r c.from_residual-in_err-sigils.ensures.1 refl))
 
 pub returns-in_err-command_said-clause-took : goal.returns-in_err-command_said-clause-took
@@ -65,7 +65,7 @@ returns-in_err-command_said-clause-took g c = λ h entries.
     let rest : List Line = c.in-Some.rest.now in
     let r = c.from_residual-in_err-command_said.result in
     of-group p b line rest c.args.lines.now _ _ r c.in-Some.ensures.cases.0 (sym c.is_skipped.ensures ∙ c.if-is_skipped.false)
-    (took-then p q (keeps-both _ _ h h c.in_ok-text.ensures.keeps (keeps-self h)) (text_steps b false [] c.args.lines.now) (next b line rest) _ _ _ c.in_ok-text.text r (c.in_ok-text.ensures.took h entries)
+    (took-then p q (keeps-both _ _ h h c.in_ok-text.ensures.keeps (keeps-self h)) (lines_text_steps b false [] c.args.lines.now) (next b line rest) _ _ _ c.in_ok-text.text r (c.in_ok-text.ensures.took h entries)
     (took-gone q (next b line rest c.in_ok-text.text) (log_of entries (g.E.Evaluation.requests c.ask_text.new.evaluation)) _ r c.from_residual-in_err-command_said.ensures.1 refl))
 
 pub returns-clause-took : goal.returns-clause-took
@@ -76,5 +76,5 @@ returns-clause-took g c = λ h entries.
     let line : Line = c.in-Some.first.now in
     let rest : List Line = c.in-Some.rest.now in
     of-group p b line rest c.args.lines.now _ _ _ c.in-Some.ensures.cases.0 (sym c.is_skipped.ensures ∙ c.if-is_skipped.false)
-    (took-then p q (keeps-both _ _ h h c.in_ok-text.ensures.keeps (keeps-self h)) (text_steps b false [] c.args.lines.now) (next b line rest) _ _ _ c.in_ok-text.text _ (c.in_ok-text.ensures.took h entries)
-    (rw (c.in_ok-command_said.ensures, c.as_slice.ensures, c.as_str.ensures, c.in_ok-sigils.ensures.are) (took-give q (log_of entries (g.E.Evaluation.requests c.ask_text.new.evaluation)) (command_of (b.syntax.sigils line b.context.settings) line rest c.in_ok-text.text))))
+    (took-then p q (keeps-both _ _ h h c.in_ok-text.ensures.keeps (keeps-self h)) (lines_text_steps b false [] c.args.lines.now) (next b line rest) _ _ _ c.in_ok-text.text _ (c.in_ok-text.ensures.took h entries)
+    (rw (c.in_ok-command_said.ensures, c.as_slice.ensures, c.as_str.ensures, c.in_ok-sigils.ensures.are) (took-give q (log_of entries (g.E.Evaluation.requests c.ask_text.new.evaluation)) (command_of_group (b.syntax.sigils line b.context.settings) line rest c.in_ok-text.text))))

@@ -2,7 +2,7 @@ use Rattle.std.proofs.Common.{rules, length, ◌≡◌, ◌≢◌, ◌<◌, ◌+
 use Rattle.just_names.specs.Texts.{texts}
 use Rattle.just_tail.specs.Options.{place}
 use Rattle.just_tail.specs.Pieces.{positional, dashes, option, option_word, value_of, is_dashed}
-use Rattle.just_tail.specs.Steps.{placed, is_open}
+use Rattle.just_tail.specs.Steps.{positionals_among, is_open}
 use Rattle.just_tail.proofs.TailLemmas.{take_front}
 use Rattle.just_tail.proofs.GroupLemmas.{stands_take, stands_close}
 use Rattle.just_tail.proofs.Places.{place_within}
@@ -44,8 +44,8 @@ returns-in_ok-push_at-in-Some-place-clause-piece c = λ h before stands.
     let whole : c.args.words.now ≡ c.in-Some.word.now ∷ c.in-Some.rest.now = search rules in
     let plain : (c.args.progress.now.opened && is_dashed w) ≡ false =
     elim c.else-progress.branch [ else-progress-via-then-progress+else-is_dashed s ↦ search rules | else-progress-via-else-progress s ↦ search rules ] in
-    let at : place ps (placed before) ≡ Some c.in-Some-place.place = ap (place ps) (sym stands.count) ∙ sym c.in-Some-place.ensures in
-    let some : place ps (placed before) ≢ None = λ e. let f = sym at ∙ e in (cc) in (
+    let at : place ps (positionals_among before) ≡ Some c.in-Some-place.place = ap (place ps) (sym stands.count) ∙ sym c.in-Some-place.ensures in
+    let some : place ps (positionals_among before) ≢ None = λ e. let f = sym at ∙ e in (cc) in (
       positional w,
       tt,
       ((ap (λ b. b && is_dashed w) (sym stands.opened) ∙ plain, some), tt),

@@ -1,8 +1,9 @@
 use Rattle.std.proofs.Common.{◌≡◌, ◌∙◌, sym, subst}
 use Rattle.std.specs.Option.{option_copied}
-use Rattle.just_parts.specs.declared.layers.config.Subcommand.TheVariants.{Evaluate}
+use Rattle.just_parts.specs.declared.layers.config.Subcommand.TheVariants.{Command, Evaluate}
 use Rattle.just_run_layers.specs.Interactions.{log_of}
 use Rattle.just_scopes.specs.Opening.{handed_of}
+use Rattle.just_invoke.specs.Command.{IsProgramRun, IsProgramRunAsExpected, program_asked}
 use Rattle.just_invoke.specs.Evaluation.{IsEvaluation, writer_of}
 use Rattle.just_invoke.proofs.run.JustfileRun.run.Goals as goal
 
@@ -18,3 +19,25 @@ returns-in-Evaluate-clause-evaluated g c = λ format path asks.
     let paths : c.in-Evaluate.path ≡ path = cc in
     subst (λ p. comes format p old new before after c.run_evaluate.result) (c.as_ref.ensures.value ∙ paths)
     (subst (λ f. comes f (option_copied c.as_ref.result) old new before after c.run_evaluate.result) formats c.run_evaluate.ensures.outcome)
+
+pub returns-in-Command-clause-commanded : goal.returns-in-Command-clause-commanded
+returns-in-Command-clause-commanded g c = λ program asks.
+    let comes = IsProgramRun c.args.self.now (handed_of c.args.config.now c.args.overrides.now) (g.E.Evaluation.promised c.args.evaluation.now) (g.H.Host.promised c.args.host.now) in
+    let old = log_of (g.H.Host.entries c.args.host.now) (g.E.Evaluation.requests c.args.evaluation.now) in
+    let new = log_of (g.H.Host.entries c.run_command.new.host) (g.E.Evaluation.requests c.run_command.new.evaluation) in
+    let both : Command c.in-Command.binary c.in-Command.arguments ≡ Command program.binary program.arguments = sym c.in-Command.is ∙ asks in
+    let binary : c.in-Command.binary ≡ program.binary = cc in
+    let arguments : c.in-Command.arguments ≡ program.arguments = cc in
+    let same : program_asked c.in-Command.binary c.in-Command.arguments ≡ program = λ i. record { binary = binary i; arguments = arguments i } in
+    subst (λ x. comes x old new c.run_command.result) same c.run_command.ensures.outcome
+
+pub returns-in-Command-clause-commanded_expected : goal.returns-in-Command-clause-commanded_expected
+returns-in-Command-clause-commanded_expected g c = λ program asks.
+    let comes = IsProgramRunAsExpected c.args.self.now (handed_of c.args.config.now c.args.overrides.now) (g.E.Evaluation.promised c.args.evaluation.now) (g.H.Host.promised c.args.host.now) in
+    let old = log_of (g.H.Host.entries c.args.host.now) (g.E.Evaluation.requests c.args.evaluation.now) in
+    let new = log_of (g.H.Host.entries c.run_command.new.host) (g.E.Evaluation.requests c.run_command.new.evaluation) in
+    let both : Command c.in-Command.binary c.in-Command.arguments ≡ Command program.binary program.arguments = sym c.in-Command.is ∙ asks in
+    let binary : c.in-Command.binary ≡ program.binary = cc in
+    let arguments : c.in-Command.arguments ≡ program.arguments = cc in
+    let same : program_asked c.in-Command.binary c.in-Command.arguments ≡ program = λ i. record { binary = binary i; arguments = arguments i } in
+    subst (λ x. comes x old new c.run_command.result) same c.run_command.ensures.expected
