@@ -1,8 +1,8 @@
 //! A plain program to compare times with: it does what `justrun` does with one file of plain recipes, by the collections
 //! of the standard library, and proves nothing. It knows no imports, modules, functions or settings.
 //!
-//!     rustc -O -o /tmp/plain benches/plain.rs
-//!     python3 benches/justrun.py /tmp/plain "chain of" "two dependencies"
+//!     mkdir -p out && rustc -O -o out/plain benches/plain.rs
+//!     python3 benches/justrun.py out/plain "chain of" "two dependencies"
 use std::collections::{HashMap, HashSet};
 use std::io::{self, Read, Write};
 use std::process::ExitCode;

@@ -6,3 +6,4 @@ pub mod Recorder
 pub mod Script
 pub mod StopWriter
 pub mod Turns
+pub mod Writing

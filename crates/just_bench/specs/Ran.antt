@@ -1,6 +1,6 @@
 -- A run of words by the bench, and what it comes to.
 use Rattle.std.proofs.Common.{BuildHasherDefault, FoldHasher}
-use Rattle.std.specs.Prelude.{◌≡◌, List, [], Some, Result, Err, IsOk}
+use Rattle.std.specs.Prelude.{◌≡◌, ℕ, List, [], Option, Some, Result, Err, IsOk}
 use Rattle.std.specs.HashMap.{HashMap}
 use Rattle.just_errors.specs.declared.error.Error.{Error}
 use Rattle.just_execution.specs.declared.run.Report.{Report}
@@ -21,8 +21,10 @@ use Rattle.just_invoke.specs.Split.{Counts}
 use Rattle.just_bench_evaluation.specs.Answered.{plain_answer}
 use Rattle.just_bench_syntax.specs.Answers.{answers}
 use Rattle.just_bench_values.specs.Constants.{evaluator}
+use Rattle.just_bench.specs.Entries.{entry_lines}
 use Rattle.just_bench.specs.Recorder.{script_promises}
 use Rattle.just_bench.specs.Script.{unscripted}
+use Rattle.just_bench.specs.Writing.{GetsBeginning}
 use Rattle.just_bench.specs.declared.script.Script.{Script}
 use Rattle.just_bench.specs.declared.program_error.ProgramError.{ProgramError}
 use Rattle.just_bench.specs.declared.program_error.ProgramError.TheVariants as program
@@ -48,12 +50,14 @@ pub record Ran (root : Justfile) (recipes : List (Recipe Dependency)) (config : 
   pub result : Result Report Error
   pub outcome : IsPlainOutcome root recipes config front words unscripted [] entries result
 
--- why a run is not told to be done: its error; or it is done, and its lines could not be written
-abbrev pub IsRunFault : Result Report Error → ProgramError → Type 0
-IsRunFault result (program.Analyzer e) = result ≡ Err e
-IsRunFault result program.Write = IsOk result
-IsRunFault result (program.NotClean root) = ⊥
-IsRunFault result (program.Input e) = ⊥
-IsRunFault result (program.Bundle e) = ⊥
-IsRunFault result (program.NoRoot root like) = ⊥
-IsRunFault result program.Memory = ⊥
+-- why a run is not told to be done: its error; or it is done, and its lines could not be written, or there was no memory for them
+pub data IsRunFault (result : Result Report Error) : ProgramError → Type 0 where
+  failed : (e : Error) → result ≡ Err e → IsRunFault result (program.Analyzer e)
+  unwritten : IsOk result → IsRunFault result program.Write
+  refused : IsOk result → IsRunFault result program.Memory
+
+-- A run is not told to be done, for this reason, and an output got a beginning of its lines.
+pub record IsUndone (root : Justfile) (recipes : List (Recipe Dependency)) (config : Config) (front : Front) (words : List Text) (old new : Option (List ℕ)) (e : ProgramError) : Type 0 where
+  pub run : Ran root recipes config front words
+  pub told : IsRunFault run.result e
+  pub begun : GetsBeginning old new (entry_lines run.entries)

@@ -12,6 +12,7 @@ mod run;
 pub mod script;
 pub mod stop_writer;
 mod words;
+mod writing;
 
 pub use entries::write_entries;
 pub use just_bench_bundle::{BundleError, InputError, paths_like, read_sources, read_text};
@@ -25,3 +26,4 @@ pub use run::run_and_write;
 pub use script::{Queue, Script};
 pub use stop_writer::StopWriter;
 pub use words::run_words;
+pub use writing::write_text;

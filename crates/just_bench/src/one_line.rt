@@ -1,34 +1,31 @@
 //! Texts that stay in one line.
-use std::fmt;
-use std::fmt::Write as _;
+ghost use Rattle.std.specs.Prelude.{◌≡◌, ◌++◌, ℕ, string_bytes, IfOk, List, OnOk};
+ghost use Rattle.std.specs.Str.{encode_utf8_all};
+ghost use Rattle.just_bench.specs.Writing.{IsInLine, IsLine};
 
-// A writer that spells out control characters.
-#[derive(Drop)]
-struct Spelling<'a, W> {
-    inner: &'a mut fmt::Formatter<W>,
+use std::alloc::{AllocError, Global};
+
+// Adds a character. A control character is spelled out, as a carriage return by `\r`.
+fn push_visible(line: &mut String, c: char) -> Result<(), AllocError>
+    ensures { OnOk result ((more : List ℕ) × IsInLine more × (string_bytes line.new ≡ string_bytes line.old ++ encode_utf8_all more)) }
+{
+    if !c.is_control() {
+        return line.push(c);
+    }
+    for escaped in c.escape_default() {
+        line.push(escaped)?;
+    }
+    Ok(())
 }
 
-impl<'a, W: fmt::Write> fmt::Write for Spelling<'a, W> {
-    fn write_str(&mut self, text: &str) -> fmt::Result {
-        for c in text.chars() {
-            if c.is_control() {
-                write!(self.inner, "{}", c.escape_default())?;
-            } else {
-                self.inner.write_char(c)?;
-            }
-        }
-        Ok(())
+/// A text as a line, with its end: control characters are spelled out.
+pub fn in_one_line(alloc: Global, text: &str) -> Result<String, AllocError>
+    ensures { IfOk result (λ line. IsLine (string_bytes line)) }
+{
+    let mut line = String::new(alloc);
+    for c in text.chars() {
+        push_visible(&mut line, c)?;
     }
-}
-
-/// Shows a value in one line: a control character is spelled out, as a carriage return by `\r`.
-#[derive(Drop)]
-pub struct OneLine<'a, T>(pub &'a T);
-
-impl<'a, T: fmt::Display> fmt::Display for OneLine<'a, T> {
-    fn fmt<W: fmt::Write>(&self, f: &mut fmt::Formatter<W>) -> fmt::Result {
-        let shown = self.0;
-        let mut spelling = Spelling { inner: f };
-        write!(spelling, "{shown}")
-    }
+    line.push('\n')?;
+    Ok(line)
 }

@@ -5,7 +5,7 @@ ghost use Rattle.just_justfile.specs.Running.{CanRun, HoldsOverridden};
 ghost use Rattle.just_names.specs.Texts.{texts};
 ghost use Rattle.just_bench_syntax.specs.Answers.{answers};
 ghost use Rattle.just_bench.specs.Entries.{entry_lines};
-ghost use Rattle.just_bench.specs.Ran.{IsRunFault, Ran, plain_front};
+ghost use Rattle.just_bench.specs.Ran.{IsUndone, Ran, plain_front};
 
 use crate::entries::write_entries;
 use crate::program_error::ProgramError;
@@ -16,10 +16,10 @@ use just_justfile::{Justfile, Recipes};
 use just_parts::layers::{Config, Number};
 use std::alloc::Global;
 use std::collections::HashMap;
-use std::io::Write;
+use std::io::{ErrorKind, Write};
 
 /// Runs words over a compiled module, and writes what the host was asked, before an error too. The error is that of the run, or
-/// else tells that the lines could not be written.
+/// else tells that the lines could not be written, or want of memory for them; then a beginning of them was.
 pub fn run_and_write<'src, W: Write>(
     alloc: Global,
     root: &Justfile<'src>,
@@ -33,15 +33,19 @@ pub fn run_and_write<'src, W: Write>(
     requires overridden { HoldsOverridden root.now overrides.now }
     ensures done { let ran = Ran root.now recipes.now config.now (plain_front config.now overrides.now) (texts words.now) in
         OnOk result ((r : ran) × IsOk r.result × Appends (W.contents output.old) (W.contents output.new) (entry_lines r.entries)) }
-    ensures fault { let ran = Ran root.now recipes.now config.now (plain_front config.now overrides.now) (texts words.now) in
-        IfErr result (λ e. (r : ran) × IsRunFault r.result e) }
+    ensures fault { let front = plain_front config.now overrides.now in
+        let undone = IsUndone root.now recipes.now config.now front (texts words.now) in
+        IfErr result (undone (W.contents output.old) (W.contents output.new)) }
 {
     let mut host = Recorder::new(alloc);
     let ran = run_words(alloc, root, recipes, overrides, config, &mut host, words);
-    let is_written = write_entries(output, host.entries()).is_ok();
-    match ran {
-        Err(error) => Err(ProgramError::Analyzer(error)),
-        Ok(_) if is_written => Ok(()),
-        Ok(_) => Err(ProgramError::Write),
+    let written = write_entries(alloc, output, host.entries());
+    if let Err(error) = ran {
+        return Err(ProgramError::Analyzer(error));
+    }
+    match written {
+        Ok(()) => Ok(()),
+        Err(error) if error.kind() == ErrorKind::OutOfMemory => Err(ProgramError::Memory),
+        Err(_) => Err(ProgramError::Write),
     }
 }

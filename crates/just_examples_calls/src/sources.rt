@@ -35,11 +35,29 @@ fn imported<'src>(alloc: Global, path: &str, given: &str) -> Result<Source<'src>
     source.import(alloc, path, offset.parse::<usize>().unwrap_or(0))
 }
 
+// The depth that the root has, where a number stands before a text, and the text.
+fn depth_and_text<'src>(given: &'src str) -> (u64, &'src str) {
+    let Some((depth, text)) = given.split_once(' ') else {
+        return (0, given);
+    };
+    match depth.parse::<u64>() {
+        Ok(depth) => (depth, text),
+        Err(_) => (0, given),
+    }
+}
+
 // The file at a path of the module of a text's last recipe, which stands in those of the recipes before it. A path that is not
-// clean has no module, and a text without recipes names none: then it is the root.
-fn declared<'src>(alloc: Global, path: &str, text: &'src str) -> Result<Source<'src>, Error<'src>> {
+// clean has no module, and a text without recipes names none: then it is the root. Where a number stands before the text, the
+// root has this depth.
+fn declared<'src>(
+    alloc: Global,
+    path: &str,
+    given: &'src str,
+) -> Result<Source<'src>, Error<'src>> {
+    let (depth, text) = depth_and_text(given);
     let names = recipe_names(alloc, text)?;
     let mut source = root_source(alloc)?;
+    source.file_depth = depth;
     for name in &names {
         if !is_clean(path) {
             return Ok(source);

@@ -8,6 +8,7 @@ use Rattle.std.proofs.lemmas.List.{append-nil}
 use Rattle.just_errors.specs.Halts.{come_to, error_of, without}
 use Rattle.just_errors.specs.declared.error.Error.{Error}
 use Rattle.just_errors.specs.declared.halt.Halt.{Halt}
+use Rattle.just_errors.specs.declared.halt.Halt.TheVariants.{Memory}
 use Rattle.just_execution.proofs.Quiet.{executed-append}
 use Rattle.just_execution.specs.declared.run.Report.{Report}
 use Rattle.just_justfile.specs.declared.justfile.Justfile.{Justfile}
@@ -42,10 +43,10 @@ module _ (root : Justfile) (handed : Handed) (e : Inquiry → Option Answer) (h 
 
     -- they do, and then the steps of the program were taken, under more promises
     pub program-ran : (d : Inquiry → Option Answer) (k : Entry → Option Answer) → KeepsPromises e d → KeepsPromises h k → (opened : List Opened) (mid : Log) → OpensLazily e h handed root set old mid (Ok opened) → AreLazyModules root set opened → executed_in mid ≡ executed_in old →
-        (ended : Result Report Halt) → result ≡ come_to ended → IfOk ended (λ report. report.calls.items ≡ []) → HasTrace (both d k) (program_steps handed.config root program opened) mid new (without ended) → executed_in new ≡ executed_in mid →
+        (ended : Result Report Halt) → result ≡ come_to ended → IfOk ended (λ report. report.calls.items ≡ []) → (without ended ≡ Err Memory → new.entries ≡ mid.entries) → HasTrace (both d k) (program_steps handed.config root program opened) mid new (without ended) → executed_in new ≡ executed_in mid →
         IsProgramRun root handed e h program old new result
-    program-ran d k more host opened mid opens lazy before ended is uncounted taken after =
-        ran opened mid ended is uncounted
+    program-ran d k more host opened mid opens lazy before ended is uncounted uncalled taken after =
+        ran opened mid ended is uncounted uncalled
         (record {
           steps = subst (λ used. OpensLazily e h handed root used old mid (Ok opened)) none opens;
           are = subst (λ used. AreLazyModules root used opened) none lazy;
@@ -62,7 +63,7 @@ module _ (root : Justfile) (handed : Handed) (e : Inquiry → Option Answer) (h 
     took-steady (both e h) f (whole_program_steps sets handed root ps program) old new (Err d) promised
         (took-stop (both e h) (all_opened sets handed ps) (program_steps handed.config root program) old new d (opens sets needs ps order)),
   )
-  program-expected (ran opened mid ended is uncounted has taken executed) = λ sets needs ps order f promised. (
+  program-expected (ran opened mid ended is uncounted uncalled has taken executed) = λ sets needs ps order f promised. (
     ended,
     is,
     took-steady (both e h) f (whole_program_steps sets handed root ps program) old new (without ended) promised

@@ -92,11 +92,11 @@ abbrev pub program_steps : ConfigContents → Justfile → ProgramAsked → List
 program_steps config root program opened =
     and_then (root_environment_steps root (hands (opened_at (out-Justfile root).module_path opened))) (λ changes. program_call_steps (command_call config root program changes))
 
--- For every host: the modules do not open, which is told; or they were opened lazily, from no numbers, and then the steps of the program were taken. Nothing is executed, and the report is that of no once table.
+-- For every host: the modules do not open, which is told; or they were opened lazily, from no numbers, and then the steps of the program were taken, and want of memory is told only where the host was not called. Nothing is executed, and the report is that of no once table.
 pub data IsProgramRun (root : Justfile) (handed : Handed) (evaluator : Inquiry → Option Answer) (host : Entry → Option Answer) (program : ProgramAsked) (old new : Log) (result : Result Report Error) : Type 0 where
   shut : (e : Halt) → result ≡ Err (error_of e) → OpensLazily evaluator host handed root no_numbers old new (Err e) → executed_in new ≡ executed_in old →
       IsProgramRun root handed evaluator host program old new result
-  ran : (opened : List Opened) (mid : Log) (ended : Result Report Halt) → result ≡ come_to ended → IfOk ended (λ report. report.calls.items ≡ []) →
+  ran : (opened : List Opened) (mid : Log) (ended : Result Report Halt) → result ≡ come_to ended → IfOk ended (λ report. report.calls.items ≡ []) → (without ended ≡ Err Memory → new.entries ≡ mid.entries) →
       HasOpenedLazily evaluator host handed root no_numbers old mid opened → HasTrace (both evaluator host) (program_steps handed.config root program opened) mid new (without ended) → executed_in new ≡ executed_in old →
       IsProgramRun root handed evaluator host program old new result
 
@@ -104,7 +104,7 @@ pub data IsProgramRun (root : Justfile) (handed : Handed) (evaluator : Inquiry �
 abbrev pub whole_program_steps : NumberSets → Handed → Justfile → List Placed → ProgramAsked → Interaction (Unit {0})
 whole_program_steps sets handed root ps program = and_then (all_opened sets handed ps) (program_steps handed.config root program)
 
--- For promised answers: where answers f are promised to all that the form asks, exactly that is asked, and the result is as they say; where memory is refused, a beginning of it was asked.
+-- For promised answers: where answers f are promised to all that the form asks, exactly that is logged, and the result is as they say; or a beginning of it was, and the result is a refusal, of memory or of a count.
 abbrev pub IsProgramRunAsExpected : Justfile → Handed → (Inquiry → Option Answer) → (Entry → Option Answer) → ProgramAsked → Log → Log → Result Report Error → Type 0
 IsProgramRunAsExpected root handed evaluator host program old new result =
     (sets : NumberSets) → AreNeedsFrom no_numbers root sets → (ps : List Placed) → IsPreorderUnder true root ps → (f : Question → Answer) →

@@ -90,7 +90,7 @@ pub data IsTextWritten (text : Text) (before after : Writer) (result : Result Re
   whole : (report : Report) → result ≡ Ok report → report.calls.items ≡ [] → after.written ≡ before.written ++ text → after.failed ≡ before.failed → IsTextWritten text before after result
   cut_short : result ≡ Err (error.Run Write) → IsCutShort before.written text after.written → IsTrue after.failed → IsTextWritten text before after result
 
--- The path leads nowhere, and nothing is asked; or it leads to values, and the modules are opened for them: they do not open, or there is no memory for the text; or they do, and then the text is written. But in the last case the writer is as it was.
+-- The path leads nowhere, and nothing is logged; or it leads to values, and the modules are opened for them: they do not open, or there is no memory for the text; or they do, and then the text is written. In all cases but the last the writer is as it was.
 pub data IsEvaluation (displayed : List Text → Text) (root : Justfile) (handed : Handed) (evaluator : Inquiry → Option Answer) (host : Entry → Option Answer)
     (format : EvaluateFormat) (path : Option Modulepath) (old new : Log) (before after : Writer) (result : Result Report Error) : Type 0 where
   refused : (e : Error) → result ≡ Err e → TellsLack (destination root path) e → new ≡ old → after ≡ before →
@@ -111,7 +111,7 @@ abbrev pub IsAnsweredFor : Result Text Halt → Writer → Writer → Result Rep
 IsAnsweredFor (Ok text) before after result = IsTextWritten text before after result
 IsAnsweredFor (Err e) before after result = (result ≡ Err (error_of e)) × (after ≡ before)
 
--- For promised answers: where a path leads to values, and answers f are promised to all that the opening asks, exactly that is asked, and the text to which it leads is written; where memory is refused, a beginning of it was asked.
+-- For promised answers: where a path leads to values, and answers f are promised to all that the opening asks, exactly that is logged, and the text to which it leads is written; or a beginning of it was logged, nothing is written, and the result is a refusal, of memory or of a count.
 abbrev pub IsEvaluationAsExpected : (List Text → Text) → Justfile → Handed → (Inquiry → Option Answer) → (Entry → Option Answer) → EvaluateFormat → Option Modulepath → Log → Log → Writer → Writer → Result Report Error → Type 0
 IsEvaluationAsExpected displayed root handed evaluator host format path old new before after result =
     (values : ValuesAsked) → LeadsToValues root format path values → (sets : NumberSets) → AreNeedsFrom (numbers_of values) root sets → (ps : List Placed) → IsPreorderUnder true root ps → (f : Question → Answer) →

@@ -9,7 +9,7 @@ use Rattle.just_run_layers.specs.declared.host.Entry.{Entry}
 use Rattle.just_scopes.specs.Open.{AreLazyModules, OpensLazily}
 use Rattle.just_scopes.specs.Opening.{Handed, Opened}
 
--- no numbers: what is evaluated anyhow is all that is needed from them
+-- no numbers: what is evaluated anyhow, and what that needs, is all that is needed from them
 abbrev pub no_numbers : Number → Bool
 no_numbers n = false
 

@@ -1,5 +1,6 @@
 //! The run of the form Command: a program runs in place of recipes.
-ghost use Rattle.std.specs.Prelude.{◌≡◌, List, IfOk, map};
+ghost use Rattle.std.specs.Prelude.{◌≡◌, Err, List, IfOk, map};
+ghost use Rattle.just_errors.specs.declared.halt.Halt.TheVariants.{Memory};
 ghost use Rattle.just_justfile.specs.Running.{CanRun, HoldsOverridden};
 ghost use Rattle.just_justfile.specs.declared.justfile.Justfile.{out-Justfile};
 ghost use Rattle.just_parts.specs.Syntax.{SyntaxAnswers};
@@ -122,6 +123,7 @@ fn call_program<'src, H: Host>(call: CommandCall, host: &mut H) -> Result<(), Ha
     ensures keeps { KeepsPromises (H.promised host.old) (H.promised host.new) }
     ensures nothing_runs { executed (H.entries host.new) ≡ executed (H.entries host.old) }
     ensures took { AsksHost (H.promised host.old) (spec.program_call_steps call) (H.entries host.old) (H.entries host.new) result }
+    ensures uncalled { result ≡ Err Memory → H.entries host.new ≡ H.entries host.old }
 {
     let answer = host.command(&call)?;
     match judge(call, answer) {
@@ -197,6 +199,7 @@ fn run_program<'src, E: Evaluation, H: Host>(
         let last = log_of (H.entries host.new) (E.requests evaluation.new) in
         let steps = spec.program_steps (config_contents config.now) root.now (program_asked binary.now arguments.now) (map opened_of opened.entry.items) in
         HasTrace (both (E.promised evaluation.old) (H.promised host.old)) steps first last result }
+    ensures uncalled { result ≡ Err Memory → H.entries host.new ≡ H.entries host.old }
 {
     let changes = ask_environment(alloc, root, opened, evaluation)?;
     let call = call_for(config, root, binary, arguments, changes)?;

@@ -56,7 +56,7 @@ impl InvocationParser {
     }
 }
 
-// The error of a recipe that takes no arguments.
+// The error of a recipe whose words are refused, with its name.
 fn rejected<'src>(recipe: &Recipe<'src>, error: TailError<'src>) -> Error<'src>
     ensures cause { IfSome (cause_of result) (λ cause. option_map (with_recipe (resolved_name recipe.now)) (tail.tail_cause_of error.entry) ≡ Some cause) }
     ensures words { IsOfWords result }

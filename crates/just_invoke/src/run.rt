@@ -121,23 +121,23 @@ pub trait Run<'src> {
     /// modules do not open, nothing is executed. The writer is asked nothing.
     ///
     /// In the form Command no words are read and no recipe runs. The modules are opened as above, each as a lazy one, for exactly
-    /// what is evaluated anyhow and what that reads. Then the evaluation is asked for the environment, by what the root has, and
+    /// what is evaluated anyhow and what that needs. Then the evaluation is asked for the environment, by what the root has, and
     /// the host is handed the program: with the shell of the root's settings, where the configuration lets a shell run it, and in
     /// the configuration's folder, or the root's where it has none. The report is that of no once table. `CommandInvoke` comes
     /// where the program does not start, `CommandStatus` where it ends without code 0, whatever the run was sent meanwhile, and
     /// `Interrupted` where it succeeds and the run was sent a signal. The writer is asked nothing.
     ///
     /// In the form Evaluate no words are read and no recipe runs. The path that the configuration asks for leads to a variable
-    /// or a module (`just_evaluate` has how, and the errors where it leads nowhere: then nothing is asked). The modules are
+    /// or a module (`just_evaluate` has how, and the errors where it leads nowhere: then neither host nor writer is asked). The modules are
     /// opened as above, each as a lazy one, for exactly what is evaluated anyhow, for that variable or for those of that module
-    /// that are not private, and for what these read. Then the text of their values is made, and only then it is written. The
+    /// that are not private, and for what these need. Then the text of their values is made, and only then it is written. The
     /// report is that of no once table. `Write` comes where the writer faults, which has a beginning of the text then.
     ///
-    /// `Dotenv` and `Evaluate` come where the host or the evaluation has no answer to what it is asked.
+    /// `Dotenv` and `Evaluate` come where the host or the evaluation answers a fault.
     ///
-    /// What compiling answers can run, and its overrides have all that the analysis saw. The evaluation takes the lines of
-    /// bodies as the grammar does: which sigils they begin with, and which go on; and what a line is does not hang on the
-    /// numbers in it.
+    /// What compiling answers can run, and its overrides have all that the analysis saw. In the form Run the evaluation takes the
+    /// lines of bodies as the grammar does: which sigils they begin with, and which go on; and what a line is does not hang on
+    /// the numbers in it.
     fn run<S: Syntax, E: Evaluation, H: Host, W: Output>(
         &self,
         alloc: Global,
@@ -152,8 +152,8 @@ pub trait Run<'src> {
     ) -> Result<Report, Error<'src>>
         requires can_run { CanRun (S.answers syntax.now) (root self.now) recipes.now }
         requires overridden { HoldsOverridden (root self.now) overrides.now }
-        requires same { AgreesWith E.sigils E.continues (S.answers syntax.now) }
-        requires bare { TellsBareLines (S.answers syntax.now) }
+        requires same { RunsRecipes config.now → AgreesWith E.sigils E.continues (S.answers syntax.now) }
+        requires bare { RunsRecipes config.now → TellsBareLines (S.answers syntax.now) }
         // Promises are kept.
         ensures keeps { KeepsPromises (E.promised evaluation.old) (E.promised evaluation.new) }
         ensures keeps_host { KeepsPromises (H.promised host.old) (H.promised host.new) }

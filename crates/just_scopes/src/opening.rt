@@ -292,8 +292,9 @@ fn open_all<'run, 'src, E: Evaluation, H: Host>(
 
 /// Opens the modules that stand in the root, each before those in it: the host is asked for the pairs of its dotenv files,
 /// where the configuration says so, and the evaluation for the values of its variables. A module is lazy where it, or one
-/// above it, sets so: then exactly those variables are evaluated that are eager, exported or read by a recipe to which the
-/// tasks lead, and whatever these read. Nothing runs. The first fault ends it: `Dotenv` of the host, `Evaluate` of the
+/// above it, sets so: then exactly those variables are evaluated that are eager, exported (all are where the settings say so)
+/// or read by a recipe to which the tasks lead, and what these need: not what a variable reads that the analysis saw as
+/// overridden. Nothing runs. The first fault ends it: `Dotenv` of the host, `Evaluate` of the
 /// evaluation.
 ///
 /// What compiling answers can run, and its overrides have all that the analysis saw. Each task is that of a recipe that is
@@ -337,8 +338,8 @@ pub fn open_modules<'run, 'src, S: Syntax, E: Evaluation, H: Host>(
 }
 
 /// Opens the modules that stand in the root, as `open_modules` does, but each as a lazy one, whatever its settings say. Of
-/// each exactly those variables are evaluated that are eager, exported or among the numbers, and whatever these read. Nothing
-/// runs. The first fault ends it: `Dotenv` of the host, `Evaluate` of the evaluation.
+/// each exactly those variables are evaluated that are eager, exported (all are where the settings say so) or among the
+/// numbers, and what these need: not what a variable reads that the analysis saw as overridden. Nothing runs. The first fault ends it: `Dotenv` of the host, `Evaluate` of the evaluation.
 ///
 /// What compiling answers can run, and its overrides have all that the analysis saw.
 pub fn open_lazily<'run, 'src, E: Evaluation, H: Host>(

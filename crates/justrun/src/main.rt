@@ -16,10 +16,10 @@ fn run_words(rt: &HostRuntime, words: Option<&[&str]>) -> u8 {
     let alloc = rt.alloc();
     let mut errors = rt.stderr();
     let Ok(mut input) = BufReader::new(alloc, rt.stdin()) else {
-        return tell(&mut errors, &ProgramError::Memory);
+        return tell(alloc, &mut errors, &ProgramError::Memory);
     };
     let Ok(mut output) = BufWriter::new(alloc, rt.stdout()) else {
-        return tell(&mut errors, &ProgramError::Memory);
+        return tell(alloc, &mut errors, &ProgramError::Memory);
     };
     program(alloc, words, &mut input, &mut output, &mut errors)
 }
@@ -29,7 +29,7 @@ fn run_texts(rt: &HostRuntime, texts: &[String]) -> u8 {
     let mut words = Vec::new(rt.alloc());
     for text in texts {
         if words.push(text.as_str()).is_err() {
-            return tell(&mut rt.stderr(), &ProgramError::Memory);
+            return tell(rt.alloc(), &mut rt.stderr(), &ProgramError::Memory);
         }
     }
     run_words(rt, Some(words.as_slice()))
@@ -40,7 +40,7 @@ fn run_arguments(rt: &HostRuntime, arguments: Args) -> u8 {
     let texts: Result<Vec<String>, AllocError> = arguments.skip(1).collect(rt.alloc());
     match texts {
         Ok(texts) => run_texts(rt, texts.as_slice()),
-        Err(_) => tell(&mut rt.stderr(), &ProgramError::Memory),
+        Err(_) => tell(rt.alloc(), &mut rt.stderr(), &ProgramError::Memory),
     }
 }
 
@@ -54,7 +54,7 @@ fn status(rt: &HostRuntime) -> u8 {
         Ok(arguments) => run_arguments(rt, arguments),
         Err(error) => {
             if is_memory(&error) {
-                tell(&mut rt.stderr(), &ProgramError::Memory)
+                tell(rt.alloc(), &mut rt.stderr(), &ProgramError::Memory)
             } else {
                 run_words(rt, None)
             }

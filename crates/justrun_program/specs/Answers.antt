@@ -13,9 +13,11 @@ use Rattle.just_compiler.specs.Compiled.{Compilation, Compiles}
 use Rattle.just_bench_syntax.specs.Answers.{answers}
 use Rattle.just_bench_values.specs.Constants.{evaluator}
 use Rattle.just_bench_bundle.specs.Bundle.{HoldsBundle, IsNoBundle}
+use Rattle.just_bench_bundle.specs.Input.{IsUnread}
 use Rattle.just_bench_bundle.specs.Near.{paths_like}
 use Rattle.just_bench.specs.Entries.{entry_lines}
 use Rattle.just_bench.specs.Ran.{IsRunFault, Ran, plain_front}
+use Rattle.just_bench.specs.Writing.{GetsBeginning}
 use Rattle.just_bench.specs.declared.program_error.ProgramError.{ProgramError}
 use Rattle.just_bench.specs.declared.program_error.ProgramError.TheVariants as program
 
@@ -37,12 +39,13 @@ pub record IsDoneOver (files : Files) (root : Text) (words : List Text) (old new
   pub succeeded : IsOk run.ran.result
   pub written : Appends old new (entry_lines run.ran.entries)
 
--- why they are not done: there is no file at the root, and these are like it; it is not compiled; or the run tells it; or want of memory
-pub data IsFaultOver (files : Files) (root : Text) (words : List Text) : ProgramError → Type 0 where
-  missing : (told : Bor Text) → told.now ≡ root → text_at files root ≡ None → IsFaultOver files root words (program.NoRoot told (paths_like files root))
-  uncompiled : (config : Config) (e : Error) → IsByDefault config → Comes files config root (Err e) → IsFaultOver files root words (program.Analyzer e)
-  ended : (run : RunsOver files root words) (e : ProgramError) → IsRunFault run.ran.result e → IsFaultOver files root words e
-  refused : IsFaultOver files root words program.Memory
+-- Why they are not done, and what an output then has: there is no file at the root, and these are like it, or it is not compiled, or
+-- memory is wanting, and nothing is written; or the run tells it, and a beginning of its lines is.
+pub data IsFaultOver (files : Files) (root : Text) (words : List Text) (old new : Option (List ℕ)) : ProgramError → Type 0 where
+  missing : (told : Bor Text) → told.now ≡ root → text_at files root ≡ None → new ≡ old → IsFaultOver files root words old new (program.NoRoot told (paths_like files root))
+  uncompiled : (config : Config) (e : Error) → IsByDefault config → Comes files config root (Err e) → new ≡ old → IsFaultOver files root words old new (program.Analyzer e)
+  ended : (run : RunsOver files root words) (e : ProgramError) → IsRunFault run.ran.result e → GetsBeginning old new (entry_lines run.ran.entries) → IsFaultOver files root words old new e
+  refused : new ≡ old → IsFaultOver files root words old new program.Memory
 
 -- the text is a bundle of files, and the words ran over these
 pub record IsRunDone (text root : Text) (words : List Text) (old new : Option (List ℕ)) : Type 0 where
@@ -51,11 +54,22 @@ pub record IsRunDone (text root : Text) (words : List Text) (old new : Option (L
   pub done : IsDoneOver files root words old new
 
 -- why not: the text is no bundle, or they fail over its files
-pub data IsProgramFault (text root : Text) (words : List Text) : ProgramError → Type 0 where
-  unbundled : (e : _) → IsNoBundle text e → IsProgramFault text root words (program.Bundle e)
-  over : (files : Files) (e : ProgramError) → HoldsBundle text files → IsFaultOver files root words e → IsProgramFault text root words e
+pub data IsProgramFault (text root : Text) (words : List Text) (old new : Option (List ℕ)) : ProgramError → Type 0 where
+  unbundled : (e : _) → IsNoBundle text e → new ≡ old → IsProgramFault text root words old new (program.Bundle e)
+  over : (files : Files) (e : ProgramError) → HoldsBundle text files → IsFaultOver files root words old new e → IsProgramFault text root words old new e
 
 -- What success means: the first argument is a clean path, and the others were run over the bundle that was left to read, where that is known.
 abbrev pub HasRun : List Text → Option (List ℕ) → Option (List ℕ) → Option (List ℕ) → Type 0
 HasRun [] left old new = ⊥
 HasRun (root ∷ words) left old new = IsClean root × IfSome left (λ text. IsRunDone text root words old new)
+
+-- why the program fails, where this was left to read, if that is known: the root is no clean path; what is read is no text; or the words fail over it
+pub data IsFailure (root : Text) (words : List Text) (left old new : Option (List ℕ)) : ProgramError → Type 0 where
+  unclean : (told : Bor Text) → told.now ≡ root → (IsClean root → ⊥) → new ≡ old → IsFailure root words left old new (program.NotClean told)
+  unread : (e : _) → IsUnread left e → new ≡ old → IsFailure root words left old new (program.Input e)
+  failing : (e : ProgramError) → IsClean root → IfSome left (λ text. IsProgramFault text root words old new e) → IsFailure root words left old new e
+
+-- what failure means: the first argument is the root, and the others the words, that fail for a reason
+abbrev pub HasNotRun : List Text → Option (List ℕ) → Option (List ℕ) → Option (List ℕ) → Type 0
+HasNotRun [] left old new = ⊥
+HasNotRun (root ∷ words) left old new = (e : ProgramError) × IsFailure root words left old new e

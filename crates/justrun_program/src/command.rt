@@ -1,19 +1,21 @@
 //! The program, over a reader and two writers.
-ghost use Rattle.std.specs.Prelude.{◌≡◌, ◌≢◌, ◌<◌, [], ◌∷◌, List, None, slice_get, IsNone, IsOk, IfErr, IfSome, OnOk};
+ghost use Rattle.std.specs.Prelude.{◌≡◌, ◌≢◌, ◌<◌, ℕ, [], ◌∷◌, List, Option, None, slice_get, IsNone, IsOk, IfErr, IfSome, OnOk};
 ghost use Rattle.std.specs.Io.KnownBytes.{Appends};
 ghost use Rattle.just_analyzer.specs.Words.{CanRun, HoldsOverridden, IsClean, texts};
 ghost use Rattle.just_names.specs.Texts.{Text};
 ghost use Rattle.just_loader.specs.Sources.{text_at};
 ghost use Rattle.just_bench_syntax.specs.Answers.{answers};
 ghost use Rattle.just_bench.specs.Entries.{entry_lines};
-ghost use Rattle.just_bench.specs.Ran.{IsRunFault, Ran, plain_front};
-ghost use Rattle.justrun_program.specs.Answers.{Comes, HasRun, IsRunDone, IsDoneOver, IsProgramFault, IsFaultOver};
+ghost use Rattle.just_bench.specs.Ran.{IsUndone, Ran, plain_front};
+ghost use Rattle.just_bench.specs.Writing.{GetsLine};
+ghost use Rattle.just_bench.specs.declared.program_error.ProgramError.{ProgramError};
+ghost use Rattle.justrun_program.specs.Answers.{Comes, HasNotRun, HasRun, IsFailure, IsRunDone, IsDoneOver, IsProgramFault, IsFaultOver};
 
 use just_analyzer::layers::{Config, Error};
 use just_analyzer::{Compilation, Compiler, Sources, is_clean};
 use just_bench::{
-    InputError, PlainEvaluation, PlainSyntax, ProgramError, paths_like, read_sources, read_text,
-    run_and_write, tell, tell_usage,
+    PlainEvaluation, PlainSyntax, ProgramError, paths_like, read_sources, read_text, run_and_write,
+    tell, tell_usage,
 };
 use std::alloc::Global;
 use std::io::{Read, Write};
@@ -36,7 +38,7 @@ fn compile<'src>(
 // Tells that there is no file at a root, and which are like it.
 fn miss<'src>(alloc: Global, sources: &Sources<'src>, root: &'src str) -> ProgramError<'src>
     requires { text_at sources.now root.now ≡ None }
-    ensures { (words : List Text) → IsFaultOver sources.now root.now words result }
+    ensures { (words : List Text) (contents : Option (List ℕ)) → IsFaultOver sources.now root.now words contents contents result }
 {
     match paths_like(alloc, sources, root) {
         Ok(like) => ProgramError::NoRoot { root, like },
@@ -58,8 +60,8 @@ fn run_compiled<'src, W: Write>(
         let ran = Ran compilation.now.justfile compilation.now.recipes config.now front (texts words.now) in
         OnOk result ((r : ran) × IsOk r.result × Appends (W.contents output.old) (W.contents output.new) (entry_lines r.entries)) }
     ensures fault { let front = plain_front config.now compilation.now.overrides in
-        let ran = Ran compilation.now.justfile compilation.now.recipes config.now front (texts words.now) in
-        IfErr result (λ e. (r : ran) × IsRunFault r.result e) }
+        let undone = IsUndone compilation.now.justfile compilation.now.recipes config.now front (texts words.now) in
+        IfErr result (undone (W.contents output.old) (W.contents output.new)) }
 {
     let Compilation {
         justfile,
@@ -80,7 +82,7 @@ fn run_sources<'src, W: Write>(
 ) -> Result<(), ProgramError<'src>>
     requires { IsClean root.now }
     ensures done { OnOk result (IsDoneOver sources.now root.now (texts words.now) (W.contents output.old) (W.contents output.new)) }
-    ensures fault { IfErr result (IsFaultOver sources.now root.now (texts words.now)) }
+    ensures fault { IfErr result (IsFaultOver sources.now root.now (texts words.now) (W.contents output.old) (W.contents output.new)) }
 {
     if sources.get(root).is_none() {
         return Err(miss(alloc, sources, root));
@@ -102,7 +104,7 @@ fn run_bundle<'src, W: Write>(
 ) -> Result<(), ProgramError<'src>>
     requires { IsClean root.now }
     ensures done { OnOk result (IsRunDone text.now root.now (texts words.now) (W.contents output.old) (W.contents output.new)) }
-    ensures fault { IfErr result (IsProgramFault text.now root.now (texts words.now)) }
+    ensures fault { IfErr result (IsProgramFault text.now root.now (texts words.now) (W.contents output.old) (W.contents output.new)) }
 {
     match read_sources(alloc, text) {
         Ok(sources) => run_sources(alloc, &sources, root, words, output),
@@ -122,26 +124,15 @@ fn run_text<W: Write, E: Write>(
     requires { IsClean root.now }
     ensures status { result < 2 }
     ensures done { result ≡ 0 → IsRunDone text.now root.now (texts words.now) (W.contents output.old) (W.contents output.new) }
+    ensures fault { let fault = IsProgramFault text.now root.now (texts words.now) (W.contents output.old) (W.contents output.new) in
+        result ≡ 1 → (e : ProgramError) × fault e }
     ensures quiet { result ≡ 0 → errors.new ≡ errors.old }
+    ensures told { result ≡ 1 → GetsLine (E.contents errors.old) (E.contents errors.new) }
 {
     match run_bundle(alloc, text, root, words, output) {
         Ok(()) => 0,
-        Err(error) => tell(errors, &error),
+        Err(error) => tell(alloc, errors, &error),
     }
-}
-
-// Tells that the root is no clean path, and answers the status.
-fn tell_root<E: Write>(errors: &mut E, root: &str) -> u8
-    ensures { result ≡ 1 }
-{
-    tell(errors, &ProgramError::NotClean(root))
-}
-
-// Tells why the input is no text, and answers the status.
-fn tell_input<E: Write>(errors: &mut E, error: InputError) -> u8
-    ensures { result ≡ 1 }
-{
-    tell(errors, &ProgramError::Input(error))
 }
 
 // Runs the words over the bundle that is read, and answers the status.
@@ -156,14 +147,17 @@ fn run_input<R: Read, W: Write, E: Write>(
     ensures status { result < 2 }
     ensures not_clean { (IsClean root.now → ⊥) → result ≡ 1 }
     ensures done { result ≡ 0 → HasRun (root.now ∷ texts words.now) (R.remaining input.old) (W.contents output.old) (W.contents output.new) }
+    ensures failed { let failure = IsFailure root.now (texts words.now) (R.remaining input.old) in
+        result ≡ 1 → (e : ProgramError) × failure (W.contents output.old) (W.contents output.new) e }
     ensures quiet { result ≡ 0 → errors.new ≡ errors.old }
+    ensures told { result ≡ 1 → GetsLine (E.contents errors.old) (E.contents errors.new) }
 {
     if !is_clean(root) {
-        return tell_root(errors, root);
+        return tell(alloc, errors, &ProgramError::NotClean(root));
     }
     match read_text(alloc, input) {
         Ok(text) => run_text(alloc, text.as_str(), root, words, output, errors),
-        Err(error) => tell_input(errors, error),
+        Err(error) => tell(alloc, errors, &ProgramError::Input(error)),
     }
 }
 
@@ -171,8 +165,9 @@ fn run_input<R: Read, W: Write, E: Write>(
 ///
 /// The first word is the path of the root, and the input is a bundle of files. Status 0: the other words were run over the
 /// root, the output has the lines of what the host was asked, and nothing was written to `errors`. Status 1: the input or the
-/// root cannot be read, compiling or the run failed, or the output could not be written; the error is told. Status 2: the
-/// program was not used well, which is told.
+/// root cannot be read, compiling or the run failed, or the output could not be written; the error is told in one line, and
+/// the output has a beginning of the lines of the run, if there was one. Status 2: the program was not used well, which is
+/// told in one line.
 pub fn program<R: Read, W: Write, E: Write>(
     alloc: Global,
     arguments: Option<&[&str]>,
@@ -187,7 +182,12 @@ pub fn program<R: Read, W: Write, E: Write>(
     ensures done { let read = R.remaining input.old in
         let wrote = W.contents output.new in
         result ≡ 0 → IfSome arguments.entry (λ all. HasRun (texts all.now) read (W.contents output.old) wrote) }
+    ensures failed { let read = R.remaining input.old in
+        let wrote = W.contents output.new in
+        result ≡ 1 → IfSome arguments.entry (λ all. HasNotRun (texts all.now) read (W.contents output.old) wrote) }
+    ensures unused { result ≡ 2 → output.new ≡ output.old }
     ensures quiet { result ≡ 0 → errors.new ≡ errors.old }
+    ensures told { result ≢ 0 → GetsLine (E.contents errors.old) (E.contents errors.new) }
 {
     let Some(arguments) = arguments else {
         return tell_usage(errors);

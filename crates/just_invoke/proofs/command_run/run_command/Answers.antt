@@ -1,10 +1,13 @@
 use Rattle.std.proofs.Common.{◌≡◌, Result, Ok, Err, map, refl, rules}
 use Rattle.std.specs.HashSet.{contains}
-use Rattle.just_errors.specs.Halts.{come_to, error_of}
+use Rattle.just_errors.specs.Halts.{come_to, error_of, without}
 use Rattle.just_errors.specs.declared.halt.Halt.{Halt}
+use Rattle.just_errors.specs.declared.halt.Halt.TheVariants.{Memory}
+use Rattle.just_execution.proofs.Standing.{ok-not}
 use Rattle.just_execution.specs.declared.run.Report.{Report}
 use Rattle.just_parts.specs.Needs.{same_number}
 use Rattle.just_run_layers.proofs.InteractionLemmas.{keeps-then}
+use Rattle.just_run_layers.specs.Interactions.{log_of}
 use Rattle.just_scopes.specs.Opening.{handed_of, opened_of}
 use Rattle.just_invoke.specs.Command.{program_asked}
 use Rattle.just_invoke.proofs.Commands.{holds-none, program-expected, program-ran, program-shut}
@@ -41,10 +44,13 @@ returns-in_err-run_program-clause-outcome g c =
     let h = g.H.Host.promised c.args.host.now in
     let program = program_asked c.args.binary.now c.args.arguments.now in
     let numbers = c.new-numbers.result in
+    let old = log_of (g.H.Host.entries c.args.host.now) (g.E.Evaluation.requests c.args.evaluation.now) in
+    let mid = log_of (g.H.Host.entries c.open_lazily.new.host) (g.E.Evaluation.requests c.open_lazily.new.evaluation) in
+    let new = log_of (g.H.Host.entries c.run_program.new.host) (g.E.Evaluation.requests c.run_program.new.evaluation) in
     let ended : Result Report Halt = Err c.in_err-run_program.field-0.0 in
     let is : c.from_residual-in_err-run_program.result ≡ come_to ended = search rules in
-    program-ran root handed e h program _ _ c.from_residual-in_err-run_program.result (contains same_number numbers) (holds-none numbers c.new-numbers.ensures.empty) _ _ c.in_ok-opened.ensures.keeps c.in_ok-opened.ensures.keeps_host
-    (map opened_of c.in_ok-opened.opened.items) _ c.in_ok-opened.ensures.took c.in_ok-opened.ensures.open c.in_ok-opened.ensures.nothing_runs ended is tt c.in_err-run_program.ensures.took c.in_err-run_program.ensures.nothing_runs
+    program-ran root handed e h program old new c.from_residual-in_err-run_program.result (contains same_number numbers) (holds-none numbers c.new-numbers.ensures.empty) _ _ c.in_ok-opened.ensures.keeps c.in_ok-opened.ensures.keeps_host
+    (map opened_of c.in_ok-opened.opened.items) mid c.in_ok-opened.ensures.took c.in_ok-opened.ensures.open c.in_ok-opened.ensures.nothing_runs ended is tt c.in_err-run_program.ensures.uncalled c.in_err-run_program.ensures.took c.in_err-run_program.ensures.nothing_runs
 
 pub returns-in_err-run_program-clause-expected : goal.returns-in_err-run_program-clause-expected
 returns-in_err-run_program-clause-expected g c =
@@ -65,9 +71,12 @@ returns-clause-outcome g c =
     let h = g.H.Host.promised c.args.host.now in
     let program = program_asked c.args.binary.now c.args.arguments.now in
     let numbers = c.new-numbers.result in
+    let old = log_of (g.H.Host.entries c.args.host.now) (g.E.Evaluation.requests c.args.evaluation.now) in
+    let mid = log_of (g.H.Host.entries c.open_lazily.new.host) (g.E.Evaluation.requests c.open_lazily.new.evaluation) in
+    let new = log_of (g.H.Host.entries c.run_program.new.host) (g.E.Evaluation.requests c.run_program.new.evaluation) in
     let ended : Result Report Halt = Ok (record { calls = c.new.result }) in
-    program-ran root handed e h program _ _ (come_to ended) (contains same_number numbers) (holds-none numbers c.new-numbers.ensures.empty) _ _ c.in_ok-opened.ensures.keeps c.in_ok-opened.ensures.keeps_host
-    (map opened_of c.in_ok-opened.opened.items) _ c.in_ok-opened.ensures.took c.in_ok-opened.ensures.open c.in_ok-opened.ensures.nothing_runs ended refl c.new.ensures.items c.in_ok-run_program.ensures.took c.in_ok-run_program.ensures.nothing_runs
+    program-ran root handed e h program old new (come_to ended) (contains same_number numbers) (holds-none numbers c.new-numbers.ensures.empty) _ _ c.in_ok-opened.ensures.keeps c.in_ok-opened.ensures.keeps_host
+    (map opened_of c.in_ok-opened.opened.items) mid c.in_ok-opened.ensures.took c.in_ok-opened.ensures.open c.in_ok-opened.ensures.nothing_runs ended refl c.new.ensures.items (λ k. absurd (ok-not (without ended) tt Memory refl k)) c.in_ok-run_program.ensures.took c.in_ok-run_program.ensures.nothing_runs
 
 pub returns-clause-expected : goal.returns-clause-expected
 returns-clause-expected g c =

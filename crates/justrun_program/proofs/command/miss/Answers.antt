@@ -5,9 +5,9 @@ use Rattle.justrun_program.specs.Answers.{IsFaultOver, missing, refused}
 use Rattle.justrun_program.proofs.command.miss.Goals as goal
 
 pub returns-in-Ok : goal.returns-in-Ok
-returns-in-Ok c = λ words.
-    subst (λ (like : List Text). IsFaultOver c.args.sources.now c.args.root.now words (program.NoRoot c.args.root like)) (sym c.in-Ok.ensures)
-    (missing c.args.root refl c.requires)
+returns-in-Ok c = λ words contents.
+    subst (λ (like : List Text). IsFaultOver c.args.sources.now c.args.root.now words contents contents (program.NoRoot c.args.root like)) (sym c.in-Ok.ensures)
+    (missing c.args.root refl c.requires refl)
 
 pub returns-in-Err : goal.returns-in-Err
-returns-in-Err c = λ words. refused
+returns-in-Err c = λ words contents. refused refl

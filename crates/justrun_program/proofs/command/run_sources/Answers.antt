@@ -1,3 +1,4 @@
+use Rattle.std.proofs.Common.{refl}
 use Rattle.std.proofs.lemmas.Result.{IfErr-weaker, on_ok_weaker}
 use Rattle.just_names.specs.Texts.{texts}
 use Rattle.justrun_program.specs.Answers.{IsFaultOver, RunsOver, ended, uncompiled}
@@ -15,9 +16,13 @@ returns-in-Ok-clause-done g c =
 
 pub returns-in-Ok-clause-fault : goal.returns-in-Ok-clause-fault
 returns-in-Ok-clause-fault g c =
-    IfErr-weaker c.run_compiled.result _ (IsFaultOver c.args.sources.now c.args.root.now (texts c.args.words.now))
-    (λ e f. ended (record { config = c.new-config.result; plain = c.new-config.ensures; compilation = c.in-Ok.compilation; compiled = c.in-Ok.ensures; ran = f.0 }) e f.1)
+    let old = g.W.Write.contents c.args.output.now in
+    let new = g.W.Write.contents c.run_compiled.new.output in
+    IfErr-weaker c.run_compiled.result _ (IsFaultOver c.args.sources.now c.args.root.now (texts c.args.words.now) old new)
+    (λ e f.
+    let over : RunsOver c.args.sources.now c.args.root.now (texts c.args.words.now) = record { config = c.new-config.result; plain = c.new-config.ensures; compilation = c.in-Ok.compilation; compiled = c.in-Ok.ensures; ran = f.run } in
+    ended over e f.told f.begun)
     c.run_compiled.ensures.fault
 
 pub returns-clause-fault : goal.returns-clause-fault
-returns-clause-fault g c = uncompiled c.new-config.result c.in-Err.error c.new-config.ensures c.in-Err.ensures
+returns-clause-fault g c = uncompiled c.new-config.result c.in-Err.error c.new-config.ensures c.in-Err.ensures refl

@@ -1,10 +1,10 @@
-use Rattle.std.proofs.Common.{◌≡◌, ◌∙◌, sym, subst}
+use Rattle.std.proofs.Common.{◌≡◌, ◌∙◌, ap, sym, subst}
 use Rattle.std.specs.Option.{option_copied}
 use Rattle.just_parts.specs.declared.layers.config.Subcommand.TheVariants.{Command, Evaluate}
 use Rattle.just_run_layers.specs.Interactions.{log_of}
 use Rattle.just_scopes.specs.Opening.{handed_of}
 use Rattle.just_invoke.specs.Command.{IsProgramRun, IsProgramRunAsExpected, program_asked}
-use Rattle.just_invoke.specs.Evaluation.{IsEvaluation, writer_of}
+use Rattle.just_invoke.specs.Evaluation.{IsEvaluation, runs_recipes, writer_of}
 use Rattle.just_invoke.proofs.run.JustfileRun.run.Goals as goal
 
 pub returns-in-Evaluate-clause-evaluated : goal.returns-in-Evaluate-clause-evaluated
@@ -41,3 +41,9 @@ returns-in-Command-clause-commanded_expected g c = λ program asks.
     let arguments : c.in-Command.arguments ≡ program.arguments = cc in
     let same : program_asked c.in-Command.binary c.in-Command.arguments ≡ program = λ i. record { binary = binary i; arguments = arguments i } in
     subst (λ x. comes x old new c.run_command.result) same c.run_command.ensures.expected
+
+pub run_words-requires-clause-same : goal.run_words-requires-clause-same
+run_words-requires-clause-same g c = c.requires.same (ap runs_recipes c.in-Run.is)
+
+pub run_words-requires-clause-bare : goal.run_words-requires-clause-bare
+run_words-requires-clause-bare g c = c.requires.bare (ap runs_recipes c.in-Run.is)
