@@ -22,8 +22,14 @@ pub record IsLine (line : List ℕ) : Type 0 where
   pub visible : IsInLine chars
   pub ended : line ≡ encode_utf8_all chars ++ 10 ∷ []
 
--- a writer got one line, or a beginning of it
+-- a writer got one line
 pub record GetsLine (old new : Option (List ℕ)) : Type 0 where
+  pub line : List ℕ
+  pub one : IsLine line
+  pub written : Appends old new line
+
+-- a writer got one line, or a beginning of it
+pub record BeginsLine (old new : Option (List ℕ)) : Type 0 where
   pub line : List ℕ
   pub one : IsLine line
   pub begun : GetsBeginning old new line

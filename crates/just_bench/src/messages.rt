@@ -1,11 +1,12 @@
 //! What is told of an error, in one line.
-ghost use Rattle.std.specs.Prelude.{◌≡◌, string_bytes, IfOk};
-ghost use Rattle.just_bench.specs.Writing.{GetsLine, IsLine};
+ghost use Rattle.std.specs.Prelude.{string_bytes, IfOk, OnOk};
+ghost use Rattle.just_bench.specs.Writing.{BeginsLine, GetsLine, IsLine};
 
 use crate::one_line::in_one_line;
 use crate::program_error::ProgramError;
 use crate::writing::write_text;
 use std::alloc::{AllocError, Global};
+use std::io;
 use std::io::Write;
 
 // The line that tells an error.
@@ -17,32 +18,31 @@ fn error_line(alloc: Global, error: &ProgramError) -> Result<String, AllocError>
     in_one_line(alloc, message.as_str())
 }
 
-// Writes a line. Whether it is written counts for nothing.
-fn write_line<E: Write>(errors: &mut E, line: &str)
+// Writes a line.
+fn write_line<E: Write>(errors: &mut E, line: &str) -> io::Result<()>
     requires { IsLine line.now }
-    ensures { GetsLine (E.contents errors.old) (E.contents errors.new) }
+    ensures told { OnOk result (GetsLine (E.contents errors.old) (E.contents errors.new)) }
+    ensures begun { BeginsLine (E.contents errors.old) (E.contents errors.new) }
 {
-    let _ = write_text(errors, line);
+    write_text(errors, line)
 }
 
-/// Tells an error in a line, in which control characters are spelled out, and answers the status that it gives. For want of
-/// memory the line tells that. Where it is not written whole, a beginning of it is.
-pub fn tell<E: Write>(alloc: Global, errors: &mut E, error: &ProgramError) -> u8
-    ensures status { result ≡ 1 }
-    ensures told { GetsLine (E.contents errors.old) (E.contents errors.new) }
+/// Tells an error in a line, in which control characters are spelled out. For want of memory the line tells that. After a
+/// fault of the writer a beginning of the line was written.
+pub fn tell<E: Write>(alloc: Global, errors: &mut E, error: &ProgramError) -> io::Result<()>
+    ensures told { OnOk result (GetsLine (E.contents errors.old) (E.contents errors.new)) }
+    ensures begun { BeginsLine (E.contents errors.old) (E.contents errors.new) }
 {
     match error_line(alloc, error) {
         Ok(line) => write_line(errors, line.as_str()),
         Err(_) => write_line(errors, "justrun: Memory: Out of memory\n"),
     }
-    1
 }
 
-/// Tells in a line how the program is used, and answers the status that this gives.
-pub fn tell_usage<E: Write>(errors: &mut E) -> u8
-    ensures status { result ≡ 2 }
-    ensures told { GetsLine (E.contents errors.old) (E.contents errors.new) }
+/// Tells in a line how the program is used. After a fault of the writer a beginning of the line was written.
+pub fn tell_usage<E: Write>(errors: &mut E) -> io::Result<()>
+    ensures told { OnOk result (GetsLine (E.contents errors.old) (E.contents errors.new)) }
+    ensures begun { BeginsLine (E.contents errors.old) (E.contents errors.new) }
 {
-    write_line(errors, "justrun: usage: justrun ROOT WORD..\n");
-    2
+    write_line(errors, "justrun: usage: justrun ROOT WORD..\n")
 }

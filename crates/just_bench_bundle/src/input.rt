@@ -1,7 +1,7 @@
 //! The whole of an input as a text.
 ghost use Rattle.std.specs.Prelude.{◌≡◌, IfOk, IfErr, IfSome, OnOk, string_bytes};
 ghost use Rattle.std.specs.Io.KnownBytes.{IsAtEnd};
-ghost use Rattle.just_bench_bundle.specs.Input.{IsUnread};
+ghost use Rattle.just_bench_bundle.specs.Input.{IsReadOn, IsUnread};
 
 use std::alloc::Global;
 use std::io::{ErrorKind, Read};
@@ -22,10 +22,11 @@ pub enum InputError {
 }
 
 /// The whole of an input as a text: all that was left to read. The error tells that it can't be read, that it is not
-/// UTF-8, or want of memory.
+/// UTF-8, or want of memory; what was read by then is gone.
 pub fn read_text<R: Read>(alloc: Global, input: &mut R) -> Result<String, InputError>
     ensures text { IfOk result (λ text. IfSome (R.remaining input.old) (λ bytes. string_bytes text ≡ bytes)) }
     ensures end { OnOk result (IsAtEnd (R.remaining input.new)) }
+    ensures onward { IsReadOn (R.remaining input.old) (R.remaining input.new) }
     ensures fault { IfErr result (IsUnread (R.remaining input.old)) }
 {
     let mut bytes = Vec::new(alloc);

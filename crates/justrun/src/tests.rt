@@ -1,5 +1,5 @@
 //! What the program answers to arguments, inputs and outputs, some of which fault.
-use justrun_program::program;
+use justrun_program::{Exit, program};
 use std::alloc::{AllocError, Global};
 use std::io;
 use std::io::{ErrorKind, Read, Write};
@@ -14,7 +14,7 @@ fn run<R: Read, W: Write, E: Write>(
     input: &mut R,
     output: &mut W,
     errors: &mut E,
-) -> Result<u8, AllocError> {
+) -> Result<Exit, AllocError> {
     let words: Vec<&str> = arguments.split_whitespace().collect(alloc)?;
     Ok(program(alloc, Some(words.as_slice()), input, output, errors))
 }
@@ -83,8 +83,9 @@ fn program_answers_arguments_and_an_input(rt: HostRuntime) -> Result<(), Fail> {
         let mut input = input;
         let mut wrote = Vec::new(alloc);
         let mut errors = Vec::new(alloc);
-        let found = run(alloc, arguments, &mut input, &mut wrote, &mut errors)?;
-        assert_eq!(rt; found, status, "at {arguments:?}");
+        let exit = run(alloc, arguments, &mut input, &mut wrote, &mut errors)?;
+        assert!(rt; exit.told.is_ok(), "at {arguments:?}");
+        assert_eq!(rt; exit.status, status, "at {arguments:?}");
         assert_eq!(rt; wrote.as_slice(), output.as_bytes(), "at {arguments:?}");
         if status == 0 {
             assert!(rt; errors.is_empty(), "at {arguments:?}");
@@ -109,8 +110,8 @@ fn paths_like_a_missing_root_are_told(rt: HostRuntime) -> Result<(), Fail> {
         let mut input = input;
         let mut output = Vec::new(alloc);
         let mut errors = Vec::new(alloc);
-        let status = run(alloc, "/justfile a", &mut input, &mut output, &mut errors)?;
-        assert_eq!(rt; status, 1);
+        let exit = run(alloc, "/justfile a", &mut input, &mut output, &mut errors)?;
+        assert_eq!(rt; exit.status, 1);
         let line = format!(in alloc;
             "justrun: Load: Could not find the root `/justfile` among the files{like}\n"
         )?;
@@ -124,8 +125,8 @@ fn argument_that_is_no_text_is_usage(rt: HostRuntime) {
     let mut input = FIRST_RUN;
     let mut output = Vec::new(rt.alloc());
     let mut errors = Vec::new(rt.alloc());
-    let status = program(rt.alloc(), None, &mut input, &mut output, &mut errors);
-    assert_eq!(rt; status, 2);
+    let exit = program(rt.alloc(), None, &mut input, &mut output, &mut errors);
+    assert_eq!(rt; exit.status, 2);
     assert!(rt; output.is_empty());
     assert_eq!(rt; told(errors.as_slice()), "usage");
 }
@@ -154,8 +155,8 @@ fn input_that_cannot_be_read(rt: HostRuntime) -> Result<(), Fail> {
         let mut output = Vec::new(alloc);
         let mut errors = Vec::new(alloc);
         let mut input = Breaking(front);
-        let status = run(alloc, "/justfile a", &mut input, &mut output, &mut errors)?;
-        assert_eq!(rt; status, 1);
+        let exit = run(alloc, "/justfile a", &mut input, &mut output, &mut errors)?;
+        assert_eq!(rt; exit.status, 1);
         assert!(rt; output.is_empty());
         assert_eq!(rt; told(errors.as_slice()), "Bundle");
     }
@@ -193,8 +194,8 @@ fn output_that_faults(rt: HostRuntime) -> Result<(), Fail> {
     for (room, arguments, name) in cases {
         let mut input = FIRST_RUN;
         let mut errors = Vec::new(alloc);
-        let status = run(alloc, arguments, &mut input, &mut Full(room), &mut errors)?;
-        assert_eq!(rt; status, 1, "with room for {room}");
+        let exit = run(alloc, arguments, &mut input, &mut Full(room), &mut errors)?;
+        assert_eq!(rt; exit.status, 1, "with room for {room}");
         assert_eq!(rt; told(errors.as_slice()), name, "with room for {room}");
     }
     Ok(())
@@ -207,8 +208,9 @@ fn fault_of_the_error_output_is_ignored(rt: HostRuntime) -> Result<(), Fail> {
         for room in [0, 3] {
             let mut input = FIRST_RUN;
             let mut output = Vec::new(alloc);
-            let status = run(alloc, arguments, &mut input, &mut output, &mut Full(room))?;
-            assert_eq!(rt; status, want, "at {arguments:?}");
+            let exit = run(alloc, arguments, &mut input, &mut output, &mut Full(room))?;
+            assert_eq!(rt; exit.status, want, "at {arguments:?}");
+            assert!(rt; exit.told.is_err(), "at {arguments:?}");
             assert!(rt; output.is_empty(), "at {arguments:?}");
         }
     }

@@ -1,13 +1,14 @@
 //! The program, over a reader and two writers.
 ghost use Rattle.std.specs.Prelude.{◌≡◌, ◌≢◌, ◌<◌, ℕ, [], ◌∷◌, List, Option, None, slice_get, IsNone, IsOk, IfErr, IfSome, OnOk};
-ghost use Rattle.std.specs.Io.KnownBytes.{Appends};
+ghost use Rattle.std.specs.Io.KnownBytes.{Appends, IsAtEnd};
 ghost use Rattle.just_analyzer.specs.Words.{CanRun, HoldsOverridden, IsClean, texts};
 ghost use Rattle.just_names.specs.Texts.{Text};
 ghost use Rattle.just_loader.specs.Sources.{text_at};
 ghost use Rattle.just_bench_syntax.specs.Answers.{answers};
+ghost use Rattle.just_bench_bundle.specs.Input.{IsReadOn};
 ghost use Rattle.just_bench.specs.Entries.{entry_lines};
 ghost use Rattle.just_bench.specs.Ran.{IsUndone, Ran, plain_front};
-ghost use Rattle.just_bench.specs.Writing.{GetsLine};
+ghost use Rattle.just_bench.specs.Writing.{BeginsLine, GetsLine};
 ghost use Rattle.just_bench.specs.declared.program_error.ProgramError.{ProgramError};
 ghost use Rattle.justrun_program.specs.Answers.{Comes, HasNotRun, HasRun, IsFailure, IsRunDone, IsDoneOver, IsProgramFault, IsFaultOver};
 
@@ -18,6 +19,7 @@ use just_bench::{
     tell, tell_usage,
 };
 use std::alloc::Global;
+use std::io;
 use std::io::{Read, Write};
 
 // Compiles the file at a root.
@@ -112,7 +114,41 @@ fn run_bundle<'src, W: Write>(
     }
 }
 
-// Runs the words over a bundle, and answers the status.
+/// How the program ended.
+#[derive(Drop)]
+pub struct Exit {
+    /// 0 where the words were run, 1 where they were not, or what was written of them was not, and 2 where the program was
+    /// not used well.
+    pub status: u8,
+    /// Whether the line that tells why was written whole, where there is one.
+    pub told: io::Result<()>,
+}
+
+/// Ends with an error, which is told.
+pub fn fail<E: Write>(alloc: Global, errors: &mut E, error: &ProgramError) -> Exit
+    ensures status { result.status ≡ 1 }
+    ensures told { OnOk result.told (GetsLine (E.contents errors.old) (E.contents errors.new)) }
+    ensures begun { BeginsLine (E.contents errors.old) (E.contents errors.new) }
+{
+    Exit {
+        status: 1,
+        told: tell(alloc, errors, error),
+    }
+}
+
+// Tells how the program is used.
+fn explain<E: Write>(errors: &mut E) -> Exit
+    ensures status { result.status ≡ 2 }
+    ensures told { OnOk result.told (GetsLine (E.contents errors.old) (E.contents errors.new)) }
+    ensures begun { BeginsLine (E.contents errors.old) (E.contents errors.new) }
+{
+    Exit {
+        status: 2,
+        told: tell_usage(errors),
+    }
+}
+
+// Runs the words over a bundle.
 fn run_text<W: Write, E: Write>(
     alloc: Global,
     text: &str,
@@ -120,22 +156,26 @@ fn run_text<W: Write, E: Write>(
     words: &[&str],
     output: &mut W,
     errors: &mut E,
-) -> u8
+) -> Exit
     requires { IsClean root.now }
-    ensures status { result < 2 }
-    ensures done { result ≡ 0 → IsRunDone text.now root.now (texts words.now) (W.contents output.old) (W.contents output.new) }
+    ensures status { result.status < 2 }
+    ensures done { result.status ≡ 0 → IsRunDone text.now root.now (texts words.now) (W.contents output.old) (W.contents output.new) }
     ensures fault { let fault = IsProgramFault text.now root.now (texts words.now) (W.contents output.old) (W.contents output.new) in
-        result ≡ 1 → (e : ProgramError) × fault e }
-    ensures quiet { result ≡ 0 → errors.new ≡ errors.old }
-    ensures told { result ≡ 1 → GetsLine (E.contents errors.old) (E.contents errors.new) }
+        result.status ≡ 1 → (e : ProgramError) × fault e }
+    ensures quiet { result.status ≡ 0 → errors.new ≡ errors.old }
+    ensures told { OnOk result.told (result.status ≡ 1 → GetsLine (E.contents errors.old) (E.contents errors.new)) }
+    ensures begun { result.status ≡ 1 → BeginsLine (E.contents errors.old) (E.contents errors.new) }
 {
     match run_bundle(alloc, text, root, words, output) {
-        Ok(()) => 0,
-        Err(error) => tell(alloc, errors, &error),
+        Ok(()) => Exit {
+            status: 0,
+            told: Ok(()),
+        },
+        Err(error) => fail(alloc, errors, &error),
     }
 }
 
-// Runs the words over the bundle that is read, and answers the status.
+// Runs the words over the bundle that is read.
 fn run_input<R: Read, W: Write, E: Write>(
     alloc: Global,
     root: &str,
@@ -143,25 +183,28 @@ fn run_input<R: Read, W: Write, E: Write>(
     input: &mut R,
     output: &mut W,
     errors: &mut E,
-) -> u8
-    ensures status { result < 2 }
-    ensures not_clean { (IsClean root.now → ⊥) → result ≡ 1 }
-    ensures done { result ≡ 0 → HasRun (root.now ∷ texts words.now) (R.remaining input.old) (W.contents output.old) (W.contents output.new) }
+) -> Exit
+    ensures status { result.status < 2 }
+    ensures not_clean { (IsClean root.now → ⊥) → result.status ≡ 1 }
+    ensures done { result.status ≡ 0 → HasRun (root.now ∷ texts words.now) (R.remaining input.old) (W.contents output.old) (W.contents output.new) }
     ensures failed { let failure = IsFailure root.now (texts words.now) (R.remaining input.old) in
-        result ≡ 1 → (e : ProgramError) × failure (W.contents output.old) (W.contents output.new) e }
-    ensures quiet { result ≡ 0 → errors.new ≡ errors.old }
-    ensures told { result ≡ 1 → GetsLine (E.contents errors.old) (E.contents errors.new) }
+        result.status ≡ 1 → (e : ProgramError) × failure (W.contents output.old) (W.contents output.new) e }
+    ensures read { result.status ≡ 0 → IsAtEnd (R.remaining input.new) }
+    ensures onward { IsReadOn (R.remaining input.old) (R.remaining input.new) }
+    ensures quiet { result.status ≡ 0 → errors.new ≡ errors.old }
+    ensures told { OnOk result.told (result.status ≡ 1 → GetsLine (E.contents errors.old) (E.contents errors.new)) }
+    ensures begun { result.status ≡ 1 → BeginsLine (E.contents errors.old) (E.contents errors.new) }
 {
     if !is_clean(root) {
-        return tell(alloc, errors, &ProgramError::NotClean(root));
+        return fail(alloc, errors, &ProgramError::NotClean(root));
     }
     match read_text(alloc, input) {
         Ok(text) => run_text(alloc, text.as_str(), root, words, output, errors),
-        Err(error) => tell(alloc, errors, &ProgramError::Input(error)),
+        Err(error) => fail(alloc, errors, &ProgramError::Input(error)),
     }
 }
 
-/// Runs the program on the words after its name, or on none where one of them is not UTF-8, and answers its status.
+/// Runs the program on the words after its name, or on none where one of them is not UTF-8, and answers how it ended.
 ///
 /// The first word is the path of the root, and the input is a bundle of files. Status 0: the other words were run over the
 /// root, the output has the lines of what the host was asked, and nothing was written to `errors`. Status 1: the input or the
@@ -174,26 +217,30 @@ pub fn program<R: Read, W: Write, E: Write>(
     input: &mut R,
     output: &mut W,
     errors: &mut E,
-) -> u8
-    ensures no_text { IsNone arguments.entry → result ≡ 2 }
-    ensures no_root { IfSome arguments.entry (λ words. words.now ≡ [] → result ≡ 2) }
-    ensures root { IfSome arguments.entry (λ words. words.now ≢ [] → result < 2) }
-    ensures not_clean { IfSome arguments.entry (λ words. IfSome (slice_get words.now 0) (λ root. (IsClean root.now → ⊥) → result ≡ 1)) }
+) -> Exit
+    ensures no_text { IsNone arguments.entry → result.status ≡ 2 }
+    ensures no_root { IfSome arguments.entry (λ words. words.now ≡ [] → result.status ≡ 2) }
+    ensures root { IfSome arguments.entry (λ words. words.now ≢ [] → result.status < 2) }
+    ensures not_clean { IfSome arguments.entry (λ words. IfSome (slice_get words.now 0) (λ root. (IsClean root.now → ⊥) → result.status ≡ 1)) }
     ensures done { let read = R.remaining input.old in
         let wrote = W.contents output.new in
-        result ≡ 0 → IfSome arguments.entry (λ all. HasRun (texts all.now) read (W.contents output.old) wrote) }
+        result.status ≡ 0 → IfSome arguments.entry (λ all. HasRun (texts all.now) read (W.contents output.old) wrote) }
     ensures failed { let read = R.remaining input.old in
         let wrote = W.contents output.new in
-        result ≡ 1 → IfSome arguments.entry (λ all. HasNotRun (texts all.now) read (W.contents output.old) wrote) }
-    ensures unused { result ≡ 2 → output.new ≡ output.old }
-    ensures quiet { result ≡ 0 → errors.new ≡ errors.old }
-    ensures told { result ≢ 0 → GetsLine (E.contents errors.old) (E.contents errors.new) }
+        result.status ≡ 1 → IfSome arguments.entry (λ all. HasNotRun (texts all.now) read (W.contents output.old) wrote) }
+    ensures unused { result.status ≡ 2 → output.new ≡ output.old }
+    ensures unread { result.status ≡ 2 → input.new ≡ input.old }
+    ensures read { result.status ≡ 0 → IsAtEnd (R.remaining input.new) }
+    ensures onward { IsReadOn (R.remaining input.old) (R.remaining input.new) }
+    ensures quiet { result.status ≡ 0 → errors.new ≡ errors.old }
+    ensures told { OnOk result.told (result.status ≢ 0 → GetsLine (E.contents errors.old) (E.contents errors.new)) }
+    ensures begun { result.status ≢ 0 → BeginsLine (E.contents errors.old) (E.contents errors.new) }
 {
     let Some(arguments) = arguments else {
-        return tell_usage(errors);
+        return explain(errors);
     };
     match arguments.split_first() {
         Some((root, words)) => run_input(alloc, root, words, input, output, errors),
-        None => tell_usage(errors),
+        None => explain(errors),
     }
 }

@@ -3,5 +3,5 @@
 
 mod command;
 
-pub use command::program;
-pub use just_bench::{ProgramError, tell};
+pub use command::{Exit, fail, program};
+pub use just_bench::ProgramError;
