@@ -609,15 +609,12 @@ def items_of(file, text):
     """The items of a text in order, under a relative path, or the fault of its first line that is none."""
     items, attributes, recipe, indent = [], [], None, None
     for number, line in enumerate(text.split("\n")):
-        if line == "" or line.startswith("#"):
+        more = line.lstrip(BLANKS)
+        if more == "" or line.startswith("#"):
             continue
         if line[0] in BLANKS:
             if recipe is None or attributes:
                 raise SyntaxFault(number, 0, line)
-            more = line.lstrip(BLANKS)
-            if more == "":
-                recipe.body.append(Line(number, []))
-                continue
             if indent is None:
                 indent = line[:len(line) - len(more)]
             if not line.startswith(indent):

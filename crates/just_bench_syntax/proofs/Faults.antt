@@ -1,6 +1,6 @@
 -- A fault is told at a part of a line of the text.
 use Rattle.std.proofs.Common.{suc, ◌≡◌, ℕ, ◌+◌, ◌<◌, sym, ◌∙◌, ap, refl, subst, List, [], ◌∷◌, ◌++◌, length, get_or, arith, Bool, true, false, Option, Some, None, Result, Ok, Err}
-use Rattle.std.specs.Prelude.{IfErr, IfSome, if◌then◌else◌}
+use Rattle.std.specs.Prelude.{◌==◌, IfErr, IfSome, if◌then◌else◌}
 use Rattle.std.specs.List.{All, slice_get}
 use Rattle.std.proofs.lemmas.List.{get_or_default}
 use Rattle.std.proofs.lemmas.List.Elements.{All-nil, All-push}
@@ -32,6 +32,7 @@ use Rattle.just_bench_syntax.specs.declared.recipe.Spoken.{Spoken}
 use Rattle.just_bench_syntax.specs.Items as items
 use Rattle.just_bench_syntax.specs.Recipe as recipe
 use Rattle.just_bench_syntax.specs.Refusal.{IsInLine}
+use Rattle.just_bench_syntax.proofs.Proper.{either}
 use Rattle.just_parts.specs.Items.{Item}
 
 -- a whole line
@@ -136,7 +137,8 @@ module _ (path text : List ℕ) where
   meaning_told : (line : TextLine) (m : Meaning) (r : Reading) → AreInLine path text line → AreTold r → Goes (items.with_meaning path text line m r)
   meaning_told line meaning.Bad r places told = places.stop
   meaning_told line meaning.Ignored r places told = told
-  meaning_told line meaning.Indented r places told = dropped_told line (indent line) r (items.dropped r.body line (indent line)) places told
+  meaning_told line meaning.Indented r places told =
+      either Goes (indent line == length line.text) (Ok r) _ told (dropped_told line (indent line) r (items.dropped r.body line (indent line)) places told)
   meaning_told line (meaning.Marks m) r places told = record {
     first = first_told r.first (line_place path text line) told.first places.whole;
     spoken = spoken_told r.spoken (line_place path text line) m.options told.spoken places.whole;

@@ -325,7 +325,8 @@ dropped_steady path text line size r (Some start) steady = body_steady path text
 meaning_steady : (path text : List ℕ) (line : TextLine) (m : Meaning) (r : Reading) → IsSteady r → IsFine m → Goes (items.with_meaning path text line m r)
 meaning_steady path text line meaning.Bad r steady fine = tt
 meaning_steady path text line meaning.Ignored r steady fine = steady
-meaning_steady path text line meaning.Indented r steady fine = dropped_steady path text line (indent line) r (items.dropped r.body line (indent line)) steady
+meaning_steady path text line meaning.Indented r steady fine =
+    either Goes (indent line == length line.text) (Ok r) _ steady (dropped_steady path text line (indent line) r (items.dropped r.body line (indent line)) steady)
 meaning_steady path text line (meaning.Marks m) r steady fine = mark_steady r (line_place path text line) m steady fine
 meaning_steady path text line (meaning.Begins h) r steady fine = recipe_steady r (recipe h r.attributes r.spoken) steady (recipe_proper h r.attributes r.spoken fine steady.said)
 meaning_steady path text line (meaning.Declares d) r steady fine = module_steady r d steady

@@ -116,15 +116,15 @@ at_last f [] = []
 at_last f (x ∷ []) = f x ∷ []
 at_last f (x ∷ y ∷ rest) = x ∷ at_last f (y ∷ rest)
 
--- how many blanks and tabs are dropped from a line that begins with so many, if it may stand in a body there: all of a line that has nothing else
+-- how many blanks and tabs are dropped from a line that begins with so many, if it may stand in a body there
 abbrev pub dropped : Body → TextLine → ℕ → Option ℕ
 dropped body.Closed line size = None
 dropped body.Begins line size = Some size
-dropped (body.Goes first) line size = if size == length line.text then Some size else (if starts_with nat_eq (take size line.text) first then Some (length first) else None)
+dropped (body.Goes first) line size = if starts_with nat_eq (take size line.text) first then Some (length first) else None
 
--- the first line of a body that has more than blanks and tabs says which are dropped
+-- the first line of a body says which blanks and tabs are dropped
 abbrev pub begun : TextLine → ℕ → Body → Body
-begun line size body.Begins = if size == length line.text then body.Begins else body.Goes (take size line.text)
+begun line size body.Begins = body.Goes (take size line.text)
 begun line size it = it
 
 abbrev pub with_body_line : List ℕ → List ℕ → TextLine → ℕ → ℕ → Reading → Option BodyLine → Result Reading Place
@@ -137,8 +137,10 @@ abbrev pub with_dropped : List ℕ → List ℕ → TextLine → ℕ → Reading
 with_dropped path text line size reading None = Err (line_place path text line)
 with_dropped path text line size reading (Some start) = with_body_line path text line size start reading (body_line path text line start)
 
+-- an indented line; one of blanks and tabs alone is none
 abbrev pub with_body : List ℕ → List ℕ → TextLine → Reading → Result Reading Place
-with_body path text line reading = with_dropped path text line (indent line) reading (dropped reading.body line (indent line))
+with_body path text line reading =
+    if indent line == length line.text then Ok reading else with_dropped path text line (indent line) reading (dropped reading.body line (indent line))
 
 -- after a line that means this
 abbrev pub with_meaning : List ℕ → List ℕ → TextLine → Meaning → Reading → Result Reading Place

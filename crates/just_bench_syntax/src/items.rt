@@ -225,8 +225,7 @@ fn push_body<'src>(
     Ok(())
 }
 
-// How many blanks and tabs are dropped from a line of a body that begins with so many, if it may stand there: all of a
-// line that has nothing else.
+// How many blanks and tabs are dropped from a line of a body that begins with so many, if it may stand there.
 #[tactic(auto, using(just_bench_lines::proofs::Bounds::prefix_fits))]
 fn dropped<'src>(body: &Body<'src>, line: &TextLine<'src>, blanks: usize) -> Option<usize>
     requires { blanks ≡ indent line.now }
@@ -238,9 +237,6 @@ fn dropped<'src>(body: &Body<'src>, line: &TextLine<'src>, blanks: usize) -> Opt
         Body::Closed => None,
         Body::Begins => Some(blanks),
         Body::Goes(first) => {
-            if blanks == text.len() {
-                return Some(blanks);
-            }
             if text[..blanks].starts_with(first.as_str()) {
                 Some(first.as_str().len())
             } else {
@@ -250,18 +246,18 @@ fn dropped<'src>(body: &Body<'src>, line: &TextLine<'src>, blanks: usize) -> Opt
     }
 }
 
-// Keeps the blanks and tabs, so many, that the first line of a body begins with. A line of nothing else is not the first.
+// Keeps the blanks and tabs, so many, that the first line of a body begins with.
 fn begin_body<'src>(line: &TextLine<'src>, blanks: usize, body: &mut Body<'src>)
     requires { blanks ≡ indent line.now }
     ensures { body.new ≡ spec.begun line.now blanks body.old }
 {
-    if !matches!(body, Body::Begins) || blanks == line.text.as_str().len() {
+    if !matches!(body, Body::Begins) {
         return;
     }
     *body = Body::Goes(BorrowedText::new(&line.text.as_str()[..blanks]));
 }
 
-// Adds a line of a body.
+// Adds a line of a body. One of blanks and tabs alone is none.
 #[tactic(auto, using(just_bench_lines::proofs::Bounds::line_cut))]
 fn add_body<'src>(
     alloc: Global,
@@ -274,6 +270,9 @@ fn add_body<'src>(
     ensures { IfOk result (λ told. spec.told told reading.new ≡ spec.with_body path.now text.now line.now reading.old) }
 {
     let blanks = indent(line);
+    if blanks == line.text.as_str().len() {
+        return Ok(Ok(()));
+    }
     let Some(size) = dropped(&reading.body, line, blanks) else {
         return Ok(Err(line_token(path, text, line)));
     };
