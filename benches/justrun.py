@@ -274,8 +274,8 @@ def one_name(count, width=100):
 
 
 def parentheses(count):
-    """A variable whose value stands in so many parentheses."""
-    return bundle("x := " + "(" * count + "'a'" + ")" * count), ["a"]
+    """A variable whose value stands in so many parentheses, beside the recipe that is run."""
+    return bundle("x := " + "(" * count + "'a'" + ")" * count, "a:"), ["a"]
 
 
 def elements(count):
@@ -284,8 +284,8 @@ def elements(count):
 
 
 def parts(count):
-    """A variable that is a sum of so many parts."""
-    return bundle("x := " + " + ".join(["'a'"] * count)), ["a"]
+    """A variable that is a sum of so many parts, beside the recipe that is run."""
+    return bundle("x := " + " + ".join(["'a'"] * count), "a:"), ["a"]
 
 
 def labels(count):

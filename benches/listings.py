@@ -1,5 +1,6 @@
 #!/usr/bin/env python3
-"""Makes large cases of listings, and reports the time that the worked examples' program takes for each.
+"""Makes large cases of what the program has no words for, and reports the time that the worked examples' program takes for each:
+listings, overrides, dotenv pairs, and runs that only show what they would do.
 
     cd crates/just_examples && rt run -- $(cat args) && cd ../..     builds the program
     python3 benches/listings.py [PROGRAM]
@@ -29,9 +30,40 @@ def modules(count):
     return f"--- /justfile\n{lines}\n" + "".join(f"--- /m{n + 1:04}.just\na:\n" for n in range(count))
 
 
+def variables(count):
+    """Variables that a recipe of the root reads none of."""
+    return "--- /justfile\n" + "".join(f"v{n:05} := 'a'\n" for n in range(count)) + "a:\n"
+
+
+def overridden(count):
+    """A run in which so many variables are overridden."""
+    return "just " + " ".join(f"--override v{n:05}=b" for n in range(count)) + " a"
+
+
+def modules_inside_each_other(count):
+    """Modules inside each other, the root with a recipe."""
+    parts = "".join(f"--- /{'/'.join(['m'] * (n + 1))}/mod.just\n{'mod m' if n + 1 < count else 'b:'}\n" for n in range(count))
+    return f"--- /justfile\nmod m\na:\n{parts}"
+
+
+def dotenv(count):
+    """A run in which the root is answered so many pairs."""
+    return "just --load-dotenv --answer pair=" + ",".join(f"n{n}=x" for n in range(count)) + " a"
+
+
+def recipes_of_three_lines(count):
+    """Recipes in a chain with three lines each."""
+    lines = "  x\n  y\n  z\n"
+    return "--- /justfile\n" + "".join(f"r{n}: r{n + 1}\n{lines}" for n in range(count - 1)) + f"r{count - 1}:\n{lines}"
+
+
 INPUTS = [
     ("100,000 recipes in 1,000 groups", recipes(100_000, 1_000), ["Justfile::name", "list", "list unsorted", "groups", "dump"]),
     ("2,000 modules", modules(2_000), ["Justfile::name", "list", "list unsorted"]),
+    ("2,000 variables", variables(2_000), ["just a", overridden(2_000)]),
+    ("20,000 variables", variables(20_000), ["just a", overridden(20_000)]),
+    ("200 modules inside each other", modules_inside_each_other(200), ["just --load-dotenv a", dotenv(10_000)]),
+    ("10,000 recipes of three lines in a chain", recipes_of_three_lines(10_000), ["just r0", "just --dry-run r0"]),
 ]
 
 
@@ -52,7 +84,7 @@ def main(program):
                 with open(f"{folder}/case.txt", "w") as file:
                     file.write(f"Large.\n\n=== case\n{bundle}$ {question}\nnothing\n")
                 seconds, memory = min(run(program, folder, "case.txt") for _ in range(3))
-                print(f"{title}: {question}: {seconds:.2f} s, {memory} MiB")
+                print(f"{title}: {question[:40]}: {seconds:.2f} s, {memory} MiB")
 
 
 if __name__ == "__main__":
