@@ -26,4 +26,3 @@ pub use run::run_and_write;
 pub use script::{Queue, Script};
 pub use stop_writer::StopWriter;
 pub use words::run_words;
-pub use writing::write_text;
