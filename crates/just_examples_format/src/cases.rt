@@ -42,38 +42,32 @@ fn add_missing(found: &mut String, answer: &str, line: &str) -> Result<(), Alloc
     writeln!(found, "  wanted: {line}\n  found:  {other}")
 }
 
-// The kind of a line: its first word, where those that are told under a number, as the items of a text are, are of one kind.
-fn kind_of(line: &str) -> &str {
-    if line.starts_with(|c: char| c.is_ascii_digit()) {
-        return "number";
-    }
-    line.split(' ').next().unwrap_or(line)
+// Whether a line is told under a number, as an item of a text is.
+fn is_numbered(line: &str) -> bool {
+    line.starts_with(|c: char| c.is_ascii_digit())
 }
 
-// Whether a text has a line of a kind.
-fn has_kind(text: &str, kind: &str) -> bool {
-    text.split('\n').any(|line| kind_of(line) == kind)
-}
-
-// Adds which lines an answer has beyond those that are wanted, of each kind of which some are: they are wanted all or none.
+// Adds which numbered lines an answer has beyond those that are wanted, where some are: they are wanted all or none.
 fn add_surplus(
     found: &mut String,
     alloc: Global,
     answer: &str,
     wanted: &str,
 ) -> Result<(), AllocError> {
+    if !wanted.split('\n').any(is_numbered) {
+        return Ok(());
+    }
     let wanted = meant(alloc, wanted)?;
     for line in answer.split('\n') {
-        let is_more = !has_line(wanted.as_str(), line) && has_kind(wanted.as_str(), kind_of(line));
-        if is_more && !line.is_empty() {
+        if is_numbered(line) && !has_line(wanted.as_str(), line) {
             writeln!(found, "  more:   {line}")?;
         }
     }
     Ok(())
 }
 
-/// Adds which of the wanted lines an answer lacks, which lines it has beyond those, of each kind of which some are wanted, and
-/// its fault where none is wanted.
+/// Adds which of the wanted lines an answer lacks, which numbered lines it has beyond those, where some are wanted, and its
+/// fault where none is wanted.
 pub fn add_differences(
     found: &mut String,
     alloc: Global,
