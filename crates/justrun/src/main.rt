@@ -49,6 +49,7 @@ fn is_memory(error: &Error) -> bool {
     error.kind() == ErrorKind::OutOfMemory
 }
 
+// Runs the program on the process's arguments, or on none where one of them is not UTF-8.
 fn run(rt: &HostRuntime) -> Exit {
     match env::args(rt) {
         Ok(arguments) => run_arguments(rt, arguments),
