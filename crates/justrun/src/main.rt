@@ -1,10 +1,12 @@
 //! Runs the recipes of a bundle of files, and prints which ones began.
 #![tactic(auto)]
 
+mod command;
 #[cfg(test)]
 mod tests;
 
-use justrun_program::{Exit, ProgramError, fail, program};
+use command::{Exit, fail, program};
+use just_bench::ProgramError;
 use std::alloc::AllocError;
 use std::env;
 use std::env::Args;

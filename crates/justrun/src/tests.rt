@@ -1,5 +1,5 @@
 //! What the program answers to arguments, inputs and outputs, some of which fault.
-use justrun_program::{Exit, program};
+use crate::command::{Exit, program};
 use std::alloc::{AllocError, Global};
 use std::io;
 use std::io::{ErrorKind, Read, Write};

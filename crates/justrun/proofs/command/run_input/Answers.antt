@@ -2,8 +2,8 @@ use Rattle.std.proofs.Common.{◌≡◌, List, ℕ, Option, None, Some, IfSome, 
 use Rattle.just_names.specs.Texts.{texts}
 use Rattle.just_paths.specs.Clean.{IsClean}
 use Rattle.just_bench.specs.declared.program_error.ProgramError.TheVariants as program
-use Rattle.justrun_program.specs.Answers.{IsProgramFault, failing, unclean, unread}
-use Rattle.justrun_program.proofs.command.run_input.Goals as goal
+use Rattle.justrun.specs.Answers.{IsProgramFault, failing, unclean, unread}
+use Rattle.justrun.proofs.command.run_input.Goals as goal
 
 -- what is so of a text is so of what was left to read, where that is known
 of_left : (left : Option (List ℕ)) (text : List ℕ) (P : List ℕ → Type 0) → IfSome left (λ bytes. text ≡ bytes) → P text → IfSome left P

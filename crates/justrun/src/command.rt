@@ -10,7 +10,7 @@ ghost use Rattle.just_bench.specs.Entries.{entry_lines};
 ghost use Rattle.just_bench.specs.Ran.{IsUndone, Ran, plain_front};
 ghost use Rattle.just_bench.specs.Writing.{BeginsLine, GetsLine};
 ghost use Rattle.just_bench.specs.declared.program_error.ProgramError.{ProgramError};
-ghost use Rattle.justrun_program.specs.Answers.{Comes, HasNotRun, HasRun, IsFailure, IsRunDone, IsDoneOver, IsProgramFault, IsFaultOver};
+ghost use Rattle.justrun.specs.Answers.{Comes, HasNotRun, HasRun, IsFailure, IsRunDone, IsDoneOver, IsProgramFault, IsFaultOver};
 
 use just_analyzer::layers::{Config, Error};
 use just_analyzer::{Compilation, Compiler, Sources, is_clean};

@@ -1,8 +1,8 @@
 use Rattle.std.proofs.Common.{List, refl, sym, subst}
 use Rattle.just_bench.specs.declared.program_error.ProgramError.TheVariants as program
 use Rattle.just_names.specs.Texts.{Text}
-use Rattle.justrun_program.specs.Answers.{IsFaultOver, missing, refused}
-use Rattle.justrun_program.proofs.command.miss.Goals as goal
+use Rattle.justrun.specs.Answers.{IsFaultOver, missing, refused}
+use Rattle.justrun.proofs.command.miss.Goals as goal
 
 pub returns-in-Ok : goal.returns-in-Ok
 returns-in-Ok c = λ words contents.

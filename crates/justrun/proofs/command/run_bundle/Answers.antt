@@ -1,8 +1,8 @@
 use Rattle.std.proofs.Common.{refl}
 use Rattle.std.proofs.lemmas.Result.{IfErr-weaker}
 use Rattle.just_names.specs.Texts.{texts}
-use Rattle.justrun_program.specs.Answers.{IsProgramFault, over, unbundled}
-use Rattle.justrun_program.proofs.command.run_bundle.Goals as goal
+use Rattle.justrun.specs.Answers.{IsProgramFault, over, unbundled}
+use Rattle.justrun.proofs.command.run_bundle.Goals as goal
 
 pub returns-in-Ok-clause-fault : goal.returns-in-Ok-clause-fault
 returns-in-Ok-clause-fault g c =

@@ -1,8 +1,8 @@
 use Rattle.std.proofs.Common.{refl}
 use Rattle.std.proofs.lemmas.Result.{IfErr-weaker, on_ok_weaker}
 use Rattle.just_names.specs.Texts.{texts}
-use Rattle.justrun_program.specs.Answers.{IsFaultOver, RunsOver, ended, uncompiled}
-use Rattle.justrun_program.proofs.command.run_sources.Goals as goal
+use Rattle.justrun.specs.Answers.{IsFaultOver, RunsOver, ended, uncompiled}
+use Rattle.justrun.proofs.command.run_sources.Goals as goal
 
 pub returns-in-Ok-clause-done : goal.returns-in-Ok-clause-done
 returns-in-Ok-clause-done g c =
