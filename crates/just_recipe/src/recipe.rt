@@ -63,6 +63,15 @@ pub struct Recipe<'src, D = Dependency<'src>> {
 pub type UnresolvedRecipe<'src> = Recipe<'src, UnresolvedDependency<'src>>;
 
 impl<'src, D> Recipe<'src, D> {
+    ghost use Rattle.just_names.specs.Token.{lexeme};
+
+    /// The text of its name.
+    pub fn name(&self) -> &'src str
+        ensures { result.now ≡ lexeme self.now.name.token }
+    {
+        self.name.lexeme()
+    }
+
     /// How many arguments it takes at least: one for each required parameter.
     pub fn min_arguments(&self) -> usize
         ensures { result ≡ least_arguments self.now.parameters }
@@ -246,7 +255,7 @@ impl<'src, D> Keyed<'src> for Recipe<'src, D> {
     ghost key_of = { λ recipe. lexeme recipe.name.token };
 
     fn key(&self) -> &'src str {
-        self.name.lexeme()
+        self.name()
     }
 }
 
