@@ -40,7 +40,9 @@ fn line_of<'text>(text: &'text str, kind: &str) -> Option<&'text str> {
 
 // How many lines of a kind a text has.
 fn count_of(text: &str, kind: &str) -> usize {
-    text.split('\n').filter(|line| kind_of(line) == kind).count()
+    text.split('\n')
+        .filter(|line| kind_of(line) == kind)
+        .count()
 }
 
 // Adds that a line is wanted, and what there is in place of it.

@@ -277,25 +277,24 @@ fn add_whole<'src>(
     add_recipes(module, recipes, alloc, lines)
 }
 
-// Adds a module and those in it with their recipes, each before those that it declares.
-fn add_all<'src>(
-    root: &Justfile<'src>,
-    recipes: &Recipes<'src>,
+/// A module and those in it, each before those that it declares.
+pub(crate) fn modules_of<'m, 'src>(
+    root: &'m Justfile<'src>,
     alloc: Global,
-    lines: &mut Lines,
-) -> Result<(), AllocError> {
+) -> Result<Vec<&'m Justfile<'src>>, AllocError> {
+    let mut modules = Vec::new(alloc);
     let mut left = Vec::new(alloc);
     left.push(root)?;
     for _ in 0..u64::MAX {
         let Some(module) = left.pop() else {
             break;
         };
-        add_whole(module, recipes, alloc, lines)?;
+        modules.push(module)?;
         for inner in module.modules.as_slice().iter().rev() {
             left.push(inner)?;
         }
     }
-    Ok(())
+    Ok(modules)
 }
 
 // Adds the lines to a text.
@@ -331,7 +330,9 @@ pub fn add_modules<'src>(
     text: &mut String,
 ) -> Result<(), AllocError> {
     let mut lines = Lines::new(alloc);
-    add_all(root, recipes, alloc, &mut lines)?;
+    for module in modules_of(root, alloc)? {
+        add_whole(module, recipes, alloc, &mut lines)?;
+    }
     add_lines(&lines, text)
 }
 
