@@ -14,7 +14,6 @@ use just_examples_answers::held::{add_justfile, add_recipes};
 use just_examples_answers::listed::add_listing;
 use just_examples_answers::requests::add_requests;
 use just_examples_answers::runs::add_run;
-use just_examples_answers::traits::{add_stability, add_trait};
 use just_examples_answers::variables::add_variable;
 use just_examples_answers::walks::add_walk;
 use just_examples_answers::{add_items, answer_text, read_pairs};
@@ -116,7 +115,6 @@ fn add_compilation<'pairs>(
         }
         "variable" => add_variable(alloc, justfile, word, text),
         "Compilation::root_ast" => add_items(text, compilation.root_ast().items.as_slice()),
-        "Justfile::check_unstable" => add_stability(justfile, alloc, text),
         "Justfile::name" | "Justfile::is_submodule" => add_justfile(justfile, kind, text),
         "Justfile::recipe"
         | "Justfile::recipe_alias"
@@ -130,11 +128,6 @@ fn add_compilation<'pairs>(
         | "Evaluation::parameters"
         | "Evaluation::string"
         | "Evaluation::value" => add_evaluated(text, alloc, compilation, syntax, kind, asked),
-        "Recipe::change_directory"
-        | "Recipe::is_parallel"
-        | "Recipe::is_public"
-        | "Recipe::name"
-        | "Recipe::takes_positional_arguments" => add_trait(justfile, recipes, kind, word, text),
         _ => add_recipes(justfile, recipes, kind, word, text),
     }
 }
@@ -154,12 +147,8 @@ fn add_sources(
     let pairs = read_pairs(alloc, asked.conflicts.as_str())?;
     let syntax = PlainSyntax::with_conflicts(pairs.as_slice());
     match compile(alloc, sources, &syntax, &asked.config, root) {
-        Ok(compilation) => {
-            let added = add_compilation(text, alloc, &compilation, &syntax, kind, asked);
-            drop(compilation);
-            added
-        }
-        Err(error) => add_fault(text, error),
+        Ok(compilation) => add_compilation(text, alloc, &compilation, &syntax, kind, asked),
+        Err(error) => add_fault(text, &error),
     }
 }
 
@@ -205,17 +194,11 @@ pub fn answer(alloc: Global, bundle: &str, question: &str) -> Result<Option<Stri
         | "Evaluation::parameters"
         | "Evaluation::string"
         | "Evaluation::value"
-        | "Justfile::check_unstable"
         | "Justfile::name"
         | "Justfile::is_submodule"
         | "Justfile::recipe"
         | "Justfile::recipe_alias"
         | "Justfile::submodule"
-        | "Recipe::change_directory"
-        | "Recipe::is_parallel"
-        | "Recipe::is_public"
-        | "Recipe::name"
-        | "Recipe::takes_positional_arguments"
         | "Recipes::len"
         | "Recipes::is_empty"
         | "Recipes::get"

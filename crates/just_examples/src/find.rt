@@ -13,29 +13,15 @@ fn first_in<'src>(ast: &Ast<'src>) -> Option<Name<'src>> {
     }
 }
 
-// How many files are found, or the name of a fault.
-fn told(alloc: Global, error: &Error) -> Result<String, AllocError> {
-    match error {
-        Error::Load(LoadError::AmbiguousModuleFile { module, found }) => {
-            format!(in alloc; "found {} of {module}\n", found.len())
-        }
-        _ => format!(in alloc; "error {}\n", error.name()),
-    }
-}
-
-// The same, of a fault that is not needed any more.
-fn fault(alloc: Global, error: Error) -> Result<String, AllocError> {
-    let told = told(alloc, &error);
-    drop(error);
-    told
-}
-
 // The file that is found, or how many are.
 fn described(alloc: Global, found: Result<Option<Text>, Error>) -> Result<String, AllocError> {
     match found {
         Ok(Some(path)) => format!(in alloc; "found {path}\n"),
         Ok(None) => String::from_str(alloc, "found none\n"),
-        Err(error) => fault(alloc, error),
+        Err(Error::Load(LoadError::AmbiguousModuleFile { module, found })) => {
+            format!(in alloc; "found {} of {module}\n", found.len())
+        }
+        Err(error) => format!(in alloc; "error {}\n", error.name()),
     }
 }
 
@@ -50,7 +36,7 @@ fn search<'src>(
 ) -> Result<String, AllocError> {
     let name = match parse(alloc, &PlainSyntax::new(), text) {
         Ok(ast) => first_in(&ast),
-        Err(error) => return fault(alloc, error),
+        Err(error) => return format!(in alloc; "error {}\n", error.name()),
     };
     match name {
         Some(name) => described(

@@ -21,7 +21,7 @@ fn add_copy<T: Clone + Drop>(value: &T, what: &str, text: &mut String) -> Result
 fn add_items(alloc: Global, read: &str, text: &mut String) -> Result<(), AllocError> {
     match parse(alloc, &PlainSyntax::new(), read) {
         Ok(ast) => add_copy(&ast.items, "items", text),
-        Err(error) => add_fault(text, error),
+        Err(error) => add_fault(text, &error),
     }
 }
 

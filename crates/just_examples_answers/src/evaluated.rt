@@ -52,7 +52,7 @@ pub fn add_values<'src, 'pairs>(
         &[],
     );
     if let Err(error) = ended {
-        add_fault(text, error)?;
+        add_fault(text, &error)?;
     }
     add_written(&writer, text)?;
     add_bound(evaluation.evaluation().asked(), text)?;

@@ -115,7 +115,7 @@ fn add_told(
             "read" => add_readings(&ast, answer),
             _ => add_conflicts(alloc, syntax, ast.items.as_slice(), answer),
         },
-        Err(error) => add_fault(answer, error),
+        Err(error) => add_fault(answer, &error),
     }
 }
 

@@ -16,7 +16,6 @@ mod recorders;
 pub mod requests;
 pub mod runs;
 mod shown;
-pub mod traits;
 pub mod variables;
 pub mod walks;
 

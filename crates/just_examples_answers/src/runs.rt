@@ -50,10 +50,9 @@ pub fn add_split<'src>(
     requires { IsRooted root.now recipes.now }
 {
     let evaluation = PlainEvaluation::new(alloc);
-    let split = InvocationParser::parse_invocations(alloc, root, recipes, &evaluation, words);
-    match split.ok() {
-        Some(invocations) => add_invocations(text, invocations.as_slice()),
-        None => Ok(()),
+    match InvocationParser::parse_invocations(alloc, root, recipes, &evaluation, words) {
+        Ok(invocations) => add_invocations(text, invocations.as_slice()),
+        Err(_) => Ok(()),
     }
 }
 
@@ -132,7 +131,7 @@ fn add_ended<'src, 'pairs>(
         words,
     ) {
         Ok(report) => add_calls(text, report.calls.as_slice()),
-        Err(error) => add_fault(text, error),
+        Err(error) => add_fault(text, &error),
     }
 }
 

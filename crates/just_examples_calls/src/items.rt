@@ -31,7 +31,7 @@ pub fn answer_item(alloc: Global, call: &str, text: &str) -> Result<Option<Strin
             }
             answer.push('\n')?;
         }
-        Err(error) => add_fault(&mut answer, error)?,
+        Err(error) => add_fault(&mut answer, &error)?,
     }
     Ok(Some(answer))
 }
@@ -81,7 +81,7 @@ pub fn answer_parameter(
             }
             answer.push('\n')?;
         }
-        Err(error) => add_fault(&mut answer, error)?,
+        Err(error) => add_fault(&mut answer, &error)?,
     }
     Ok(Some(answer))
 }

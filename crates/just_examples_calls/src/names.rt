@@ -84,7 +84,7 @@ fn answer_each(
     let names = match recipe_names(alloc, text) {
         Ok(names) => names,
         Err(error) => {
-            add_fault(&mut answer, error)?;
+            add_fault(&mut answer, &error)?;
             return Ok(Some(answer));
         }
     };
@@ -188,7 +188,7 @@ pub fn answer_namepath(
     let names = match recipe_names(alloc, text) {
         Ok(names) => names,
         Err(error) => {
-            add_fault(&mut answer, error)?;
+            add_fault(&mut answer, &error)?;
             return Ok(Some(answer));
         }
     };

@@ -43,7 +43,7 @@ pub fn answer_pattern(alloc: Global, call: &str, rest: &str) -> Result<Option<St
                 return Ok(None);
             }
         }
-        Err(error) => add_fault(&mut answer, error)?,
+        Err(error) => add_fault(&mut answer, &error)?,
     }
     Ok(Some(answer))
 }

@@ -134,7 +134,7 @@ fn add_grouped(
 fn add_default(recipe: &UnresolvedRecipe, text: &mut String) -> Result<(), AllocError> {
     match recipe.check_can_be_default_recipe() {
         Ok(()) => text.push_str("can be the default\n"),
-        Err(error) => add_fault(text, Error::Invocation(error)),
+        Err(error) => add_fault(text, &Error::Invocation(error)),
     }
 }
 
@@ -198,7 +198,7 @@ fn add_parsed(
     match parse(alloc, &PlainSyntax::new(), text) {
         Ok(ast) => add_first(alloc, call, settings, &ast, answer),
         Err(error) => {
-            add_fault(answer, error)?;
+            add_fault(answer, &error)?;
             Ok(true)
         }
     }

@@ -315,7 +315,7 @@ pub fn answer_resolver(
         _ => return Ok(None),
     }
     if let Err(error) = add_answer(alloc, call, overridden, text, &mut answer) {
-        add_fault(&mut answer, error)?;
+        add_fault(&mut answer, &error)?;
     }
     Ok(Some(answer))
 }

@@ -79,7 +79,7 @@ pub fn answer_source(alloc: Global, call: &str, rest: &str) -> Result<Option<Str
     let mut text = String::new(alloc);
     match made {
         Ok(source) => add_source(alloc, &source, &mut text)?,
-        Err(error) => add_fault(&mut text, error)?,
+        Err(error) => add_fault(&mut text, &error)?,
     }
     Ok(Some(text))
 }

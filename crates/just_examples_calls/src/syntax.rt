@@ -63,7 +63,7 @@ fn answer_body(alloc: Global, call: &str, text: &str) -> Result<Option<String>, 
         },
         Err(error) => {
             let mut answer = String::new(alloc);
-            add_fault(&mut answer, error)?;
+            add_fault(&mut answer, &error)?;
             Ok(Some(answer))
         }
     }

@@ -25,60 +25,49 @@ fn has_line(text: &str, line: &str) -> bool {
     text.split('\n').any(|other| other == line)
 }
 
-// The kind of a line: its first word, where all numbers are one kind.
-fn kind_of(line: &str) -> &str {
-    if line.starts_with(|c: char| c.is_ascii_digit()) {
-        return "1";
+// The first line of a text that begins with a word.
+fn line_of<'text>(text: &'text str, word: &str) -> Option<&'text str> {
+    for line in text.split('\n') {
+        if line.split(' ').next() == Some(word) {
+            return Some(line);
+        }
     }
-    line.split(' ').next().unwrap_or(line)
-}
-
-// The first line of a kind in a text.
-fn line_of<'text>(text: &'text str, kind: &str) -> Option<&'text str> {
-    text.split('\n').find(|line| kind_of(line) == kind)
-}
-
-// How many lines of a kind a text has.
-fn count_of(text: &str, kind: &str) -> usize {
-    text.split('\n')
-        .filter(|line| kind_of(line) == kind)
-        .count()
+    None
 }
 
 // Adds that a line is wanted, and what there is in place of it.
 fn add_missing(found: &mut String, answer: &str, line: &str) -> Result<(), AllocError> {
-    let other = line_of(answer, kind_of(line)).unwrap_or("no such line");
+    let word = line.split(' ').next().unwrap_or(line);
+    let other = line_of(answer, word).unwrap_or("no such line");
     writeln!(found, "  wanted: {line}\n  found:  {other}")
 }
 
-// Whether a line of an answer is one more than is wanted of its kind.
-fn is_surplus(answer: &str, wanted: &str, line: &str) -> bool {
-    if has_line(wanted, line) {
-        return false;
-    }
-    let kind = kind_of(line);
-    let count = count_of(wanted, kind);
-    count > 0 && count < count_of(answer, kind)
+// Whether a line is told under a number, as an item of a text is.
+fn is_numbered(line: &str) -> bool {
+    line.starts_with(|c: char| c.is_ascii_digit())
 }
 
-// Adds which lines an answer has beyond those that are wanted, where some of their kind are: they are wanted all or none.
+// Adds which numbered lines an answer has beyond those that are wanted, where some are: they are wanted all or none.
 fn add_surplus(
     found: &mut String,
     alloc: Global,
     answer: &str,
     wanted: &str,
 ) -> Result<(), AllocError> {
+    if !wanted.split('\n').any(is_numbered) {
+        return Ok(());
+    }
     let wanted = meant(alloc, wanted)?;
     for line in answer.split('\n') {
-        if is_surplus(answer, wanted.as_str(), line) {
+        if is_numbered(line) && !has_line(wanted.as_str(), line) {
             writeln!(found, "  more:   {line}")?;
         }
     }
     Ok(())
 }
 
-/// Adds which of the wanted lines an answer lacks, which lines it has beyond those of their kinds, and its fault where none is
-/// wanted.
+/// Adds which of the wanted lines an answer lacks, which numbered lines it has beyond those, where some are wanted, and its
+/// fault where none is wanted.
 pub fn add_differences(
     found: &mut String,
     alloc: Global,

@@ -306,8 +306,8 @@ fn add_message(text: &mut String, error: &Error) -> Result<(), AllocError> {
     }
 }
 
-// Adds the lines of a fault that is lent.
-fn add_lines(text: &mut String, error: &Error) -> Result<(), AllocError> {
+/// Adds the lines of a fault: its name with its fields, what it says, and its token where it has one.
+pub fn add_fault(text: &mut String, error: &Error) -> Result<(), AllocError> {
     write!(text, "error {}", error.name())?;
     add_fields(text, error)?;
     text.push('\n')?;
@@ -315,11 +315,4 @@ fn add_lines(text: &mut String, error: &Error) -> Result<(), AllocError> {
         add_place(text, token)?;
     }
     add_message(text, error)
-}
-
-/// Adds the lines of a fault: its name with its fields, what it says, and its token where it has one.
-pub fn add_fault(text: &mut String, error: Error) -> Result<(), AllocError> {
-    let added = add_lines(text, &error);
-    drop(error);
-    added
 }

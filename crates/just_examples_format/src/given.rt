@@ -1,5 +1,5 @@
 //! The line that tells which values override variables.
-use crate::modules::{add_variable, modules_of};
+use crate::modules::add_variable;
 use just_data::Text;
 use just_justfile::Justfile;
 use just_parts::layers::Number;
@@ -28,9 +28,17 @@ pub fn add_given<'src>(
     alloc: Global,
     text: &mut String,
 ) -> Result<(), AllocError> {
+    let mut left = Vec::new(alloc);
+    left.push(root)?;
     text.push_str("given")?;
-    for module in modules_of(root, alloc)? {
+    for _ in 0..u64::MAX {
+        let Some(module) = left.pop() else {
+            break;
+        };
         add_values(module, overrides, text)?;
+        for inner in module.modules.as_slice().iter().rev() {
+            left.push(inner)?;
+        }
     }
     text.push('\n')
 }

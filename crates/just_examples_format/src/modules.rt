@@ -277,24 +277,25 @@ fn add_whole<'src>(
     add_recipes(module, recipes, alloc, lines)
 }
 
-/// A module and those in it, each before those that it declares.
-pub(crate) fn modules_of<'m, 'src>(
-    root: &'m Justfile<'src>,
+// Adds a module and those in it with their recipes, each before those that it declares.
+fn add_all<'src>(
+    root: &Justfile<'src>,
+    recipes: &Recipes<'src>,
     alloc: Global,
-) -> Result<Vec<&'m Justfile<'src>>, AllocError> {
-    let mut modules = Vec::new(alloc);
+    lines: &mut Lines,
+) -> Result<(), AllocError> {
     let mut left = Vec::new(alloc);
     left.push(root)?;
     for _ in 0..u64::MAX {
         let Some(module) = left.pop() else {
             break;
         };
-        modules.push(module)?;
+        add_whole(module, recipes, alloc, lines)?;
         for inner in module.modules.as_slice().iter().rev() {
             left.push(inner)?;
         }
     }
-    Ok(modules)
+    Ok(())
 }
 
 // Adds the lines to a text.
@@ -330,9 +331,7 @@ pub fn add_modules<'src>(
     text: &mut String,
 ) -> Result<(), AllocError> {
     let mut lines = Lines::new(alloc);
-    for module in modules_of(root, alloc)? {
-        add_whole(module, recipes, alloc, &mut lines)?;
-    }
+    add_all(root, recipes, alloc, &mut lines)?;
     add_lines(&lines, text)
 }
 
