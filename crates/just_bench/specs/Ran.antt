@@ -1,6 +1,6 @@
 -- A run of words by the bench, and what it comes to.
 use Rattle.std.proofs.Common.{BuildHasherDefault, FoldHasher}
-use Rattle.std.specs.Prelude.{◌≡◌, ℕ, List, [], Option, Some, Result, Err, IsOk}
+use Rattle.std.specs.Prelude.{◌≡◌, ℕ, List, [], Option, None, Some, Result, Err, IsOk}
 use Rattle.std.specs.HashMap.{HashMap}
 use Rattle.just_errors.specs.declared.error.Error.{Error}
 use Rattle.just_execution.specs.declared.run.Report.{Report}
@@ -52,7 +52,7 @@ pub record Ran (root : Justfile) (recipes : List (Recipe Dependency)) (config : 
 
 -- why a run is not told to be done: its error; or it is done, and its lines could not be written, or there was no memory for them
 pub data IsRunFault (result : Result Report Error) : ProgramError → Type 0 where
-  failed : (e : Error) → result ≡ Err e → IsRunFault result (program.Analyzer e)
+  failed : (e : Error) → result ≡ Err e → IsRunFault result (program.Analyzer e None)
   unwritten : IsOk result → IsRunFault result program.Write
   refused : IsOk result → IsRunFault result program.Memory
 

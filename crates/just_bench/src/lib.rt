@@ -15,7 +15,9 @@ mod words;
 mod writing;
 
 pub use entries::write_entries;
-pub use just_bench_bundle::{BundleError, InputError, paths_like, read_sources, read_text};
+pub use just_bench_bundle::{
+    BundleError, FileLine, InputError, line_of, paths_like, read_sources, read_text,
+};
 pub use just_bench_evaluation::PlainEvaluation;
 pub use just_bench_reading::{parse, root_source};
 pub use just_bench_syntax::PlainSyntax;

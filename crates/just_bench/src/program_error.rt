@@ -1,5 +1,5 @@
 //! Why the program ends early.
-use just_bench_bundle::{BundleError, InputError};
+use just_bench_bundle::{BundleError, FileLine, InputError};
 use just_data::{BorrowedText, Sequence};
 use just_parts::layers::Error;
 use std::fmt;
@@ -18,8 +18,11 @@ pub enum ProgramError<'src> {
         root: &'src str,
         like: Sequence<BorrowedText<'src>>,
     },
-    /// Compiling or running failed.
-    Analyzer(Error<'src>),
+    /// Compiling or running failed. On the line, if one is told, stands what the error tells of.
+    Analyzer {
+        error: Error<'src>,
+        line: Option<FileLine<'src>>,
+    },
     /// The output could not be written.
     Write,
     /// Memory was refused.
@@ -35,7 +38,7 @@ impl<'src> ProgramError<'src> {
                 "Memory",
             ProgramError::Input(_) | ProgramError::Bundle(_) => "Bundle",
             ProgramError::NoRoot { .. } => "Load",
-            ProgramError::Analyzer(error) => error.name(),
+            ProgramError::Analyzer { error, .. } => error.name(),
             ProgramError::Write => "Write",
             ProgramError::Memory => "Memory",
         }
@@ -54,6 +57,14 @@ fn write_like<W: fmt::Write>(f: &mut fmt::Formatter<W>, paths: &[BorrowedText]) 
     Ok(())
 }
 
+// Writes on which line to look, where one is told.
+fn write_line<W: fmt::Write>(f: &mut fmt::Formatter<W>, line: &Option<FileLine>) -> fmt::Result {
+    match line {
+        Some(line) => write!(f, "; see {line}"),
+        None => Ok(()),
+    }
+}
+
 impl<'src> fmt::Display for ProgramError<'src> {
     fn fmt<W: fmt::Write>(&self, f: &mut fmt::Formatter<W>) -> fmt::Result {
         match self {
@@ -69,7 +80,10 @@ impl<'src> fmt::Display for ProgramError<'src> {
                 write!(f, "Could not find the root `{root}` among the files")?;
                 write_like(f, like.as_slice())
             }
-            ProgramError::Analyzer(error) => write!(f, "{error}"),
+            ProgramError::Analyzer { error, line } => {
+                write!(f, "{error}")?;
+                write_line(f, line)
+            }
             ProgramError::Write => f.write_str("The output could not be written"),
             ProgramError::Memory => f.write_str("Out of memory"),
         }

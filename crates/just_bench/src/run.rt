@@ -41,7 +41,7 @@ pub fn run_and_write<'src, W: Write>(
     let ran = run_words(alloc, root, recipes, overrides, config, &mut host, words);
     let written = write_entries(alloc, output, host.entries());
     if let Err(error) = ran {
-        return Err(ProgramError::Analyzer(error));
+        return Err(ProgramError::Analyzer { error, line: None });
     }
     match written {
         Ok(()) => Ok(()),

@@ -1,3 +1,5 @@
 pub mod Bundle
 pub mod Input
 pub mod Near
+pub mod Places
+pub mod Walk

@@ -1,10 +1,15 @@
-//! Bundles of files: an input as a text, a text as a map from paths to texts, and paths that are like another.
+//! Bundles of files: an input as a text, a text as a map from paths to texts, paths that are like another, and the lines that lead
+//! to files.
 #![tactic(auto)]
 
 mod bundle;
 mod input;
+mod leads;
 mod near;
+mod places;
+mod walk;
 
 pub use bundle::{BundleError, read_sources};
 pub use input::{InputError, read_text};
 pub use near::paths_like;
+pub use places::{FileLine, line_of};

@@ -14,11 +14,11 @@ use Rattle.just_justfile.specs.declared.resolution.Resolution.TheVariants as res
 use Rattle.just_module_contents.specs.Recipes.{name_of, no_recipe, recipe_at}
 use Rattle.just_module_contents.specs.Rules.{BreaksAliasTargets, unknown_target}
 use Rattle.just_module_contents.specs.Standing.{AreStanding}
-use Rattle.just_module_recipes.specs.Aliased.{Targets, UnknownTargets, as_module, as_recipe, alias_meant, targets}
+use Rattle.just_module_aliases.specs.Aliased.{Targets, UnknownTargets, as_module, as_recipe, alias_meant, targets}
 use Rattle.just_module_recipes.specs.Linked.{HasDisabled, name_of_disabled}
 use Rattle.just_module_recipes.specs.Links.{Around, Disables, HasTarget, PathLeadsTo, IsNameOf, Stands, far, near, to_module, to_recipe}
-use Rattle.just_module_recipes.specs.declared.aliases.Meaning.{Meaning}
-use Rattle.just_module_recipes.proofs.Aliasing.{means_none}
+use Rattle.just_module_aliases.specs.declared.aliases.Meaning.{Meaning}
+use Rattle.just_module_aliases.proofs.Aliasing.{means_none}
 use Rattle.just_names.specs.Name.{text_of_name}
 use Rattle.just_names.specs.Texts.{Text}
 use Rattle.just_names.specs.declared.name.Name.{Name}

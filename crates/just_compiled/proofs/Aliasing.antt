@@ -13,10 +13,10 @@ use Rattle.just_justfile.specs.declared.justfile.Justfile.{Justfile, out-Justfil
 use Rattle.just_justfile.specs.declared.resolution.Resolution.{Resolution}
 use Rattle.just_justfile.specs.declared.resolution.Resolution.TheVariants as resolution
 use Rattle.just_justfile.proofs.Leading.{stands_along, walk_along}
-use Rattle.just_module_recipes.specs.Aliased.{Targets, aliases_onto, as_module_alias, as_recipe, as_recipe_alias, alias_meant, modules_among, name_of_alias, recipes_among, targets_of, with_meaning}
-use Rattle.just_module_recipes.specs.declared.aliases.Meaning.{Meaning}
-use Rattle.just_module_recipes.specs.declared.aliases.Meaning.TheVariants as meaning
-use Rattle.just_module_recipes.proofs.Aliasing.{one_added}
+use Rattle.just_module_aliases.specs.Aliased.{Targets, aliases_onto, as_module_alias, as_recipe, as_recipe_alias, alias_meant, modules_among, name_of_alias, recipes_among, targets_of, with_meaning}
+use Rattle.just_module_aliases.specs.declared.aliases.Meaning.{Meaning}
+use Rattle.just_module_aliases.specs.declared.aliases.Meaning.TheVariants as meaning
+use Rattle.just_module_aliases.proofs.Aliasing.{one_added}
 use Rattle.just_module_tree.specs.Modules.{Forest, Module}
 use Rattle.just_module_tree.specs.Standing as trees
 use Rattle.just_module_tree.specs.Standing.{DisabledBy, EndsWell, HasTargetInTree, WalkEnd, absent_in, find_inner, follow, kept_in, leads, to_module, to_recipe}

@@ -33,7 +33,7 @@ use Rattle.just_module_headers.specs.Reading.{Reading}
 use Rattle.just_module_tree.specs.Modules.{AreModules, Forest, Heading, Module, a_module, after_it, first, in_it, no_module, path_of}
 use Rattle.just_graph.proofs.Index.{some_same}
 use Rattle.std.specs.Option.{option_map}
-use Rattle.just_module_recipes.proofs.Later.{marked_or_none}
+use Rattle.just_module_aliases.proofs.Later.{marked_or_none}
 use Rattle.just_module_contents.specs.Recipes.{name_of, no_recipe, recipe_at, recipes_of}
 use Rattle.just_module_contents.proofs.RecipePlaces.{number_read, recipe_read}
 use Rattle.just_module_tree.specs.Standing.{StandsInTree as Stands}

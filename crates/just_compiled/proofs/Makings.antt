@@ -7,7 +7,7 @@ use Rattle.just_justfile.specs.declared.justfile.Justfile.{Justfile, out-Justfil
 use Rattle.just_justfile.specs.declared.justfile.RecipeKey.{RecipeKey}
 use Rattle.just_compiled.specs.Analysis.{IsOf, recipe_table}
 use Rattle.just_module_contents.specs.Contents.{Contents}
-use Rattle.just_module_recipes.specs.Aliased.{aliases_of, targets_of}
+use Rattle.just_module_aliases.specs.Aliased.{aliases_of, targets_of}
 
 -- a justfile, by its parts
 pub is_of : (m : Contents) (standing : List (Recipe UnresolvedDependency)) (ast : Ast) (loaded : List (List ℕ)) (source : List ℕ) (j : Justfile)

@@ -7,9 +7,9 @@ use Rattle.just_justfile.specs.declared.justfile.Justfile.{Justfile, out-Justfil
 use Rattle.just_justfile.specs.declared.justfile.RecipeKey.{RecipeKey}
 use Rattle.just_justfile.specs.declared.resolution.Resolution.{Resolution}
 use Rattle.just_justfile.specs.declared.resolution.Resolution.TheVariants as resolution
-use Rattle.just_module_recipes.specs.Aliased.{Targets, as_module, as_recipe, alias_meant}
-use Rattle.just_module_recipes.specs.declared.aliases.Meaning.{Meaning}
-use Rattle.just_module_recipes.specs.declared.aliases.Meaning.TheVariants as meaning
+use Rattle.just_module_aliases.specs.Aliased.{Targets, as_module, as_recipe, alias_meant}
+use Rattle.just_module_aliases.specs.declared.aliases.Meaning.{Meaning}
+use Rattle.just_module_aliases.specs.declared.aliases.Meaning.TheVariants as meaning
 use Rattle.just_names.specs.Name.{text_of_name, texts_of_path}
 use Rattle.just_names.specs.Texts.{Text}
 use Rattle.just_names.specs.declared.name.Namepath.{Namepath}

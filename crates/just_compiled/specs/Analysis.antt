@@ -25,7 +25,7 @@ use Rattle.just_module_contents.specs.Contents.{Contents}
 use Rattle.just_paths.specs.declared.modulepath.Modulepath.{Modulepath}
 use Rattle.just_module_contents.specs.Standing.{AreStanding}
 use Rattle.just_module_recipes.specs.Completing.{Completion, completion}
-use Rattle.just_module_recipes.specs.Aliased.{aliases_of, targets_of}
+use Rattle.just_module_aliases.specs.Aliased.{aliases_of, targets_of}
 use Rattle.just_module_recipes.specs.Linked.{AreLinked, HasDisabled, HasNumber}
 use Rattle.just_module_recipes.specs.Links.{Disables, Stands, around_of}
 use Rattle.just_recipe.specs.declared.dependency.Dependency.{Dependency}

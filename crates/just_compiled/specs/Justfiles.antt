@@ -13,9 +13,9 @@ use Rattle.std.specs.List.{Contains}
 use Rattle.just_ast_definitions.specs.declared.alias.Alias.{Alias}
 use Rattle.just_justfile.specs.Walks.{only, path_along}
 use Rattle.just_justfile.specs.declared.aliases.Aliases.{Aliases}
-use Rattle.just_module_recipes.specs.Aliased.{no_aliases, with_meaning}
-use Rattle.just_module_recipes.specs.declared.aliases.Meaning.{Meaning}
-use Rattle.just_module_recipes.specs.declared.aliases.Meaning.TheVariants as meaning
+use Rattle.just_module_aliases.specs.Aliased.{no_aliases, with_meaning}
+use Rattle.just_module_aliases.specs.declared.aliases.Meaning.{Meaning}
+use Rattle.just_module_aliases.specs.declared.aliases.Meaning.TheVariants as meaning
 use Rattle.just_paths.specs.declared.modulepath.Modulepath.{Modulepath}
 use Rattle.just_justfile.specs.declared.justfile.Justfile.{Justfile, out-Justfile}
 use Rattle.just_compiled.specs.Analysis.{HasDefault, IsOf, completion_of}

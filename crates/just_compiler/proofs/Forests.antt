@@ -71,7 +71,7 @@ use Rattle.just_compiled.proofs.Aliasing.{all_aliased, means_in, means_nothing}
 use Rattle.just_compiled.proofs.Bridges.{aliases_back, links_back}
 use Rattle.just_module_contents.specs.Groups.{OfAliases}
 use Rattle.just_module_contents.specs.Rules.{BreaksAliasTargets, under, unknown_target}
-use Rattle.just_module_recipes.specs.Aliased.{aliases_of, alias_meant, no_aliases, targets as targets_made, targets_of}
+use Rattle.just_module_aliases.specs.Aliased.{aliases_of, alias_meant, no_aliases, targets as targets_made, targets_of}
 use Rattle.just_ast_definitions.specs.declared.alias.Alias.{Alias}
 use Rattle.just_names.specs.declared.name.Namepath.{Namepath}
 use Rattle.just_module_tree.specs.Standing.{HasTargetInTree, links_in, name_in, of_targets, told_in}

@@ -1,11 +1,8 @@
-pub mod Adding
 pub mod Analyzing
 pub mod Compilable
 pub mod Compilations
-pub mod Docs
 pub mod Forests
 pub mod Grounds
-pub mod GroupGrounds
 pub mod Keeping
 pub mod Linking
 pub mod Meant
@@ -18,5 +15,4 @@ mod OwnRules
 pub mod Placed
 pub mod Readings
 pub mod Runnable
-pub mod ShownPaths
 mod Numbered

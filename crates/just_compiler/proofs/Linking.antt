@@ -1,8 +1,8 @@
 -- What a module that is analyzed is linked to, by what its justfile has.
 use Rattle.std.proofs.Common.{◌≡◌, Bool, List, ◌++◌, Option, sym, ap, subst}
 use Rattle.just_compiler.specs.Parts.{IsAnalyzedFrom, around_by, completion_here, value_of}
-use Rattle.just_compiler.specs.declared.groups.Checked.{Checked}
-use Rattle.just_compiler.specs.declared.justfiles.Surroundings.{Surroundings}
+use Rattle.just_module_checks.specs.declared.checks.Checked.{Checked}
+use Rattle.just_module_assembly.specs.declared.justfiles.Surroundings.{Surroundings}
 use Rattle.just_names.specs.Texts.{Text}
 use Rattle.just_ast_expressions.specs.declared.expression.Expression.{Expression}
 use Rattle.just_ast_expressions.specs.declared.settings.Settings.{Settings}

@@ -16,7 +16,7 @@ use Rattle.just_module_headers.specs.Files.{ArePlaced, AreRows, asts_in}
 use Rattle.just_module_headers.specs.Joined.{IsJoined}
 use Rattle.just_compiled.specs.Labelled.{with_labels, by_name, slot}
 use Rattle.just_compiled.specs.Justfiles.{AreCompiled, Built, contents_read, notes_said, recipes_in, recipes_of_all}
-use Rattle.just_compiler.specs.Noted.{notes_from, notes_of_place}
+use Rattle.just_module_assembly.specs.Noted.{notes_from, notes_of_place}
 use Rattle.just_module_tree.specs.Modules.{Forest, Heading, Module, headings_in, AreModules, IsHeading, IsModule, a_module, contents_of, heading_of, no_module}
 use Rattle.just_module_contents.specs.Constants.{Evaluated}
 use Rattle.just_module_contents.specs.Contents.{Contents}

@@ -4,7 +4,7 @@ use Rattle.std.specs.List.{Contains}
 use Rattle.std.specs.Prelude.{flat_map}
 use Rattle.std.proofs.lemmas.List.Elements.{Contains-get_or}
 use Rattle.just_compiler.specs.Parts.{TellsChecked}
-use Rattle.just_compiler.specs.declared.groups.Checked.{Checked}
+use Rattle.just_module_checks.specs.declared.checks.Checked.{Checked}
 use Rattle.just_ast_expressions.specs.declared.expression.Expression.{Expression}
 use Rattle.just_errors.specs.Causes.{Cause, Keeps}
 use Rattle.just_graph.proofs.Members.{In, contained, in_flat, in_left, in_right, is_in}

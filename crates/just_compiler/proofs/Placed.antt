@@ -23,11 +23,11 @@ use Rattle.just_module_headers.specs.OfPlaces.{contents_of_place, labels_of_plac
 use Rattle.just_module_headers.specs.declared.files.Files.{Files}
 use Rattle.just_module_headers.specs.declared.join.Joined.{Joined}
 use Rattle.just_module_recipes.specs.Broken.{BreaksRecipes}
-use Rattle.just_compiler.specs.Checked.{IsChecked, no_links}
+use Rattle.just_module_checks.specs.Checked.{IsChecked, no_links}
 use Rattle.just_compiled.specs.Evaluated.{IsEvaluatedTo}
 use Rattle.just_compiler.specs.Steps.{BreaksOver, BreaksPlace, KeepsPlace, names_of_labels, path_at, path_in}
-use Rattle.just_compiler.specs.declared.groups.Checked.{Checked}
-use Rattle.just_compiler.proofs.GroupGrounds.{before_any, broken_any}
+use Rattle.just_module_checks.specs.declared.checks.Checked.{Checked}
+use Rattle.just_module_checks.proofs.GroupGrounds.{before_any, broken_any}
 use Rattle.just_compiler.proofs.Grounds.{all_kept, recipes_broken}
 use Rattle.just_names.specs.Texts.{Text}
 use Rattle.just_recipe.specs.declared.dependency.Dependency.{Dependency}

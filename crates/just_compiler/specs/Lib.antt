@@ -1,9 +1,6 @@
 pub mod Analyzed
-pub mod Checked
 pub mod Compiled
-pub mod Noted
 pub mod Parts
-pub mod Paths
 pub mod Readings
 pub mod Rules
 pub mod Steps

@@ -10,7 +10,6 @@ use Rattle.just_module_contents.specs.Kept.{kept_recipes}
 use Rattle.just_module_contents.specs.Named.{recipes_by}
 use Rattle.just_module_contents.specs.Standing.{AreStanding}
 use Rattle.just_justfile.specs.declared.disabled.Disabled.{Disabled}
-use Rattle.just_module_recipes.specs.Aliased.{Targets, targets as targets_made}
 use Rattle.just_module_recipes.specs.Completing.{Completion}
 use Rattle.just_module_recipes.specs.Linked.{AddsLinked, HasDisabled}
 use Rattle.just_module_recipes.specs.Links.{Around, Disables, Stands, BreaksStanding, around as around_made, links_by, told_by}
@@ -23,11 +22,10 @@ use Rattle.just_module_headers.specs.declared.join.Joined.{Joined}
 use Rattle.just_compiled.specs.Analysis.{HasDefault, IsOf, completion_in}
 use Rattle.just_compiled.specs.Labelled.{by_name, notes_in, slot, with_labels}
 use Rattle.just_compiled.specs.Justfiles.{Made}
-use Rattle.just_compiler.specs.Noted.{notes_of_place}
+use Rattle.just_module_assembly.specs.Noted.{notes_of_place}
 use Rattle.just_compiled.specs.Variables.{HasVariables}
-use Rattle.just_compiler.specs.declared.groups.Checked.{Checked}
-use Rattle.just_compiler.specs.declared.justfiles.OwnRecipes.{OwnRecipes}
-use Rattle.just_compiler.specs.declared.justfiles.Surroundings.{Surroundings}
+use Rattle.just_module_checks.specs.declared.checks.Checked.{Checked}
+use Rattle.just_module_assembly.specs.declared.justfiles.Surroundings.{Surroundings}
 use Rattle.just_names.specs.Texts.{Text}
 use Rattle.just_module_contents.specs.declared.labels.Label.{Label}
 use Rattle.just_parts.specs.Asts.{AstKey}
@@ -52,10 +50,6 @@ pub record AreSurroundings (enabled : Item → Bool) (files : Files) (joined : J
 -- what is around the recipes of a module with these surroundings
 abbrev pub around_by : Surroundings → List (Recipe Dependency) → Around
 around_by it held = around_made it.notes.absent_modules it.modules held
-
--- what the aliases of a module with these surroundings and recipes lead through and to
-abbrev pub own_targets : Surroundings → OwnRecipes → Targets
-own_targets it own = targets_made it.notes.absent_modules own.disabled it.modules own.keys
 
 -- what is broken of the recipes of a module that is checked, over what is around them, and what an error may tell of them
 abbrev pub BreaksChecked : Layers → Checked → Around → Cause → Type 0

@@ -8,9 +8,9 @@ ghost use Rattle.just_compiler.specs.Analyzed.{AnalyzesAt, TellsAnalyzed};
 ghost use Rattle.just_parts.specs.Layers.{given_by};
 
 use crate::compiling::{Gathered, compile_in_order};
-use crate::inner::{labelled, take_at};
 use just_data::{Sequence, Shared, Text};
 use just_justfile::{Justfile, Recipes};
+use just_module_assembly::{labelled, take_at};
 use just_module_contents::Label;
 use just_module_headers::files::Files;
 use just_module_headers::join::arrange;

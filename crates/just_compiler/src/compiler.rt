@@ -6,9 +6,9 @@ ghost use Rattle.just_compiler.specs.Compiled.{Compiles};
 
 use crate::analyzer::Analyzer;
 use crate::compilation::Compilation;
-use crate::paths::relative_paths;
 use just_data::{Shared, Text};
 use just_loader::{Loaded, Sources, load};
+use just_module_assembly::relative_paths;
 use just_overrides::apply_overrides;
 use just_parts::layers::{Config, ConstantEvaluation, Error, Name, Syntax};
 use just_paths::Modulepath;

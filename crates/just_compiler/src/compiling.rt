@@ -20,12 +20,11 @@ ghost use Rattle.just_compiler.specs.Parts.{AreSurroundings, IsAnalyzedFrom, IsC
 ghost use Rattle.just_compiled.specs.Settled.{AreInnerSettled};
 ghost use Rattle.just_compiler.specs.Steps.{BreaksInOrder, BreaksOver, CanCompileAll, CompilesAt, FitsFiles, HaveCompiledAll, made_in};
 
-use crate::groups::{Checked, add_recipes, check_files};
-use crate::inner::take_inner;
-use crate::justfiles::{Surroundings, make_justfile};
-use crate::notes::notes_at;
+use crate::groups::add_recipes;
 use just_data::{Sequence, Shared, Text};
 use just_justfile::{Justfile, Recipes};
+use just_module_assembly::{Surroundings, make_justfile, notes_at, take_inner};
+use just_module_checks::{Checked, check_files};
 use just_module_contents::Label;
 use just_module_headers::files::Files;
 use just_module_headers::join::Joined;

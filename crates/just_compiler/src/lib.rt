@@ -6,10 +6,6 @@ pub mod compilation;
 pub mod compiler;
 mod compiling;
 mod groups;
-mod inner;
-mod justfiles;
-mod notes;
-mod paths;
 
 pub use analyzer::Analyzer;
 pub use compilation::Compilation;

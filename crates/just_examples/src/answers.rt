@@ -14,6 +14,7 @@ use just_examples_answers::held::{add_justfile, add_recipes};
 use just_examples_answers::listed::add_listing;
 use just_examples_answers::requests::add_requests;
 use just_examples_answers::runs::add_run;
+use just_examples_answers::traits::{add_recipe, add_stability};
 use just_examples_answers::variables::add_variable;
 use just_examples_answers::walks::add_walk;
 use just_examples_answers::{add_items, answer_text, read_pairs};
@@ -66,6 +67,32 @@ fn add_evaluated(
     add_requests(evaluation.asked(), text)
 }
 
+// Adds what a call gives of a compilation, of the root's module or of its recipes.
+fn add_call<'pairs>(
+    text: &mut String,
+    alloc: Global,
+    compilation: &Compilation,
+    syntax: &PlainSyntax<'pairs>,
+    kind: &str,
+    asked: &Asked,
+) -> Result<(), AllocError>
+    requires can_run { CanRun (⟦<PlainSyntax<'pairs> as Syntax>⟧.answers syntax.now) compilation.now.justfile compilation.now.recipes }
+    requires root_ast { IsSome (get same_ast_key compilation.now.asts (root_ast_key compilation.now.root)) }
+{
+    let (justfile, recipes) = (&compilation.justfile, &compilation.recipes);
+    let (owner, call) = kind.split_once("::").unwrap_or(("", ""));
+    let word = asked.first_word();
+    match (owner, call) {
+        ("Compilation", _) => add_items(text, compilation.root_ast().items.as_slice()),
+        ("Evaluation", _) => add_evaluated(text, alloc, compilation, syntax, kind, asked),
+        ("Justfile", "name" | "is_submodule") => add_justfile(justfile, kind, text),
+        ("Justfile" | "Resolution", _) => add_walk(justfile, recipes, alloc, kind, word, text),
+        ("RunRecipe", _) => add_recipe(justfile, recipes, call, word, text),
+        ("Stability", _) => add_stability(justfile, alloc, &asked.config, text),
+        _ => add_recipes(justfile, recipes, kind, word, text),
+    }
+}
+
 // Adds what is asked of a compilation: what it has and what words do, what a program in their place comes to, which values are written,
 // what a variable of the root's module refers to and which variables it needs, or what a call gives.
 fn add_compilation<'pairs>(
@@ -114,21 +141,7 @@ fn add_compilation<'pairs>(
             add_listing(justfile, recipes, alloc, kind, word, text)
         }
         "variable" => add_variable(alloc, justfile, word, text),
-        "Compilation::root_ast" => add_items(text, compilation.root_ast().items.as_slice()),
-        "Justfile::name" | "Justfile::is_submodule" => add_justfile(justfile, kind, text),
-        "Justfile::recipe"
-        | "Justfile::recipe_alias"
-        | "Justfile::submodule"
-        | "Resolution::resolve_recipe"
-        | "Resolution::resolve_module" => add_walk(justfile, recipes, alloc, kind, word, text),
-        "Evaluation::assignments"
-        | "Evaluation::display"
-        | "Evaluation::environment"
-        | "Evaluation::line"
-        | "Evaluation::parameters"
-        | "Evaluation::string"
-        | "Evaluation::value" => add_evaluated(text, alloc, compilation, syntax, kind, asked),
-        _ => add_recipes(justfile, recipes, kind, word, text),
+        _ => add_call(text, alloc, compilation, syntax, kind, asked),
     }
 }
 
@@ -148,7 +161,7 @@ fn add_sources(
     let syntax = PlainSyntax::with_conflicts(pairs.as_slice());
     match compile(alloc, sources, &syntax, &asked.config, root) {
         Ok(compilation) => add_compilation(text, alloc, &compilation, &syntax, kind, asked),
-        Err(error) => add_fault(text, &error),
+        Err(error) => add_fault(text, error),
     }
 }
 
@@ -173,38 +186,50 @@ fn answer_compiled(
     Ok(answer)
 }
 
+// The questions of what a bundle is compiled to: words, and calls of a compilation, of the root's module or of a recipe.
+const OF_COMPILED: [&str; 33] = [
+    "just",
+    "command",
+    "dump",
+    "evaluate",
+    "groups",
+    "list",
+    "show",
+    "tell",
+    "variable",
+    "Compilation::root_ast",
+    "Evaluation::assignments",
+    "Evaluation::display",
+    "Evaluation::environment",
+    "Evaluation::line",
+    "Evaluation::parameters",
+    "Evaluation::string",
+    "Evaluation::value",
+    "Justfile::is_submodule",
+    "Justfile::name",
+    "Justfile::recipe",
+    "Justfile::recipe_alias",
+    "Justfile::submodule",
+    "Recipes::get",
+    "Recipes::is_empty",
+    "Recipes::len",
+    "Recipes::place_of",
+    "Resolution::resolve_module",
+    "Resolution::resolve_recipe",
+    "RunRecipe::change_directory",
+    "RunRecipe::is_parallel",
+    "RunRecipe::is_public",
+    "RunRecipe::takes_positional_arguments",
+    "Stability::check_unstable",
+];
+
 /// Answers a question over a bundle, a line for each thing that a case may ask of it, or none where it is no question.
 pub fn answer(alloc: Global, bundle: &str, question: &str) -> Result<Option<String>, AllocError> {
     let (kind, rest) = question.split_once(' ').unwrap_or((question, ""));
+    if OF_COMPILED.contains(&kind) {
+        return Ok(Some(answer_compiled(alloc, bundle, kind, rest)?));
+    }
     match kind {
-        "just"
-        | "command"
-        | "dump"
-        | "evaluate"
-        | "groups"
-        | "list"
-        | "show"
-        | "tell"
-        | "variable" => Ok(Some(answer_compiled(alloc, bundle, kind, rest)?)),
-        "Compilation::root_ast"
-        | "Evaluation::assignments"
-        | "Evaluation::display"
-        | "Evaluation::environment"
-        | "Evaluation::line"
-        | "Evaluation::parameters"
-        | "Evaluation::string"
-        | "Evaluation::value"
-        | "Justfile::name"
-        | "Justfile::is_submodule"
-        | "Justfile::recipe"
-        | "Justfile::recipe_alias"
-        | "Justfile::submodule"
-        | "Recipes::len"
-        | "Recipes::is_empty"
-        | "Recipes::get"
-        | "Recipes::place_of"
-        | "Resolution::resolve_recipe"
-        | "Resolution::resolve_module" => Ok(Some(answer_compiled(alloc, bundle, kind, rest)?)),
         "find" => Ok(Some(answer_find(alloc, bundle, rest)?)),
         "parse" | "read" | "conflicts" => Ok(Some(answer_text(alloc, kind, rest)?)),
         "copy" | "file" | "Recorder::memory_at" | "Recorder::scripted" => {

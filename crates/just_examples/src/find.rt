@@ -13,15 +13,29 @@ fn first_in<'src>(ast: &Ast<'src>) -> Option<Name<'src>> {
     }
 }
 
+// How many files are found where these are several, or the name of another fault.
+fn fault_text(alloc: Global, error: &Error) -> Result<String, AllocError> {
+    match error {
+        Error::Load(LoadError::AmbiguousModuleFile { module, found }) => {
+            format!(in alloc; "found {} of {module}\n", found.len())
+        }
+        _ => format!(in alloc; "error {}\n", error.name()),
+    }
+}
+
+// What is told of a fault, which is dropped.
+fn told(alloc: Global, error: Error) -> Result<String, AllocError> {
+    let text = fault_text(alloc, &error);
+    drop(error);
+    text
+}
+
 // The file that is found, or how many are.
 fn described(alloc: Global, found: Result<Option<Text>, Error>) -> Result<String, AllocError> {
     match found {
         Ok(Some(path)) => format!(in alloc; "found {path}\n"),
         Ok(None) => String::from_str(alloc, "found none\n"),
-        Err(Error::Load(LoadError::AmbiguousModuleFile { module, found })) => {
-            format!(in alloc; "found {} of {module}\n", found.len())
-        }
-        Err(error) => format!(in alloc; "error {}\n", error.name()),
+        Err(error) => told(alloc, error),
     }
 }
 
@@ -36,7 +50,7 @@ fn search<'src>(
 ) -> Result<String, AllocError> {
     let name = match parse(alloc, &PlainSyntax::new(), text) {
         Ok(ast) => first_in(&ast),
-        Err(error) => return format!(in alloc; "error {}\n", error.name()),
+        Err(error) => return told(alloc, error),
     };
     match name {
         Some(name) => described(

@@ -2,7 +2,7 @@
 use just_bench::{Recorder, parse, root_source};
 use just_bench_syntax::PlainSyntax;
 use just_data::{Sequence, Text};
-use just_examples_format::faults::add_fault;
+use just_examples_format::faults::unless_fault;
 use just_paths::Modulepath;
 use just_run_layers::{Groups, Host};
 use std::alloc::{AllocError, Global};
@@ -19,9 +19,9 @@ fn add_copy<T: Clone + Drop>(value: &T, what: &str, text: &mut String) -> Result
 
 // Adds what becomes of the items of a text, or its fault.
 fn add_items(alloc: Global, read: &str, text: &mut String) -> Result<(), AllocError> {
-    match parse(alloc, &PlainSyntax::new(), read) {
-        Ok(ast) => add_copy(&ast.items, "items", text),
-        Err(error) => add_fault(text, &error),
+    match unless_fault(parse(alloc, &PlainSyntax::new(), read), text)? {
+        Some(ast) => add_copy(&ast.items, "items", text),
+        None => Ok(()),
     }
 }
 

@@ -8,7 +8,7 @@ use crate::shown::add_lines;
 use just_bench::{PlainSyntax, StopWriter};
 use just_data::Text;
 use just_examples_format::asked::Asked;
-use just_examples_format::faults::add_fault;
+use just_examples_format::faults::unless_fault;
 use just_justfile::{Justfile, Recipes};
 use just_parts::layers::{Number, Syntax};
 use std::alloc::{AllocError, Global};
@@ -51,9 +51,7 @@ pub fn add_values<'src, 'pairs>(
         &asked.config,
         &[],
     );
-    if let Err(error) = ended {
-        add_fault(text, &error)?;
-    }
+    unless_fault(ended, text)?;
     add_written(&writer, text)?;
     add_bound(evaluation.evaluation().asked(), text)?;
     add_executed(text, host.entries())?;

@@ -3,7 +3,7 @@ use crate::readings::add_readings;
 use just_bench::parse;
 use just_bench_syntax::PlainSyntax;
 use just_data::Text;
-use just_examples_format::faults::add_fault;
+use just_examples_format::faults::unless_fault;
 use just_examples_format::lists::before;
 use just_examples_format::written::unmarked;
 use just_parts::layers::{Item, Keyword, StringLiteral, Syntax};
@@ -109,13 +109,13 @@ fn add_told(
     text: &str,
     answer: &mut String,
 ) -> Result<(), AllocError> {
-    match parse(alloc, syntax, text) {
-        Ok(ast) => match kind {
-            "parse" => add_items(answer, ast.items.as_slice()),
-            "read" => add_readings(&ast, answer),
-            _ => add_conflicts(alloc, syntax, ast.items.as_slice(), answer),
-        },
-        Err(error) => add_fault(answer, &error),
+    let Some(ast) = unless_fault(parse(alloc, syntax, text), answer)? else {
+        return Ok(());
+    };
+    match kind {
+        "parse" => add_items(answer, ast.items.as_slice()),
+        "read" => add_readings(&ast, answer),
+        _ => add_conflicts(alloc, syntax, ast.items.as_slice(), answer),
     }
 }
 

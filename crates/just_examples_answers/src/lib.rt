@@ -16,6 +16,7 @@ mod recorders;
 pub mod requests;
 pub mod runs;
 mod shown;
+pub mod traits;
 pub mod variables;
 pub mod walks;
 

@@ -10,7 +10,7 @@ use just_bench::{PlainEvaluation, PlainSyntax, Recorder, StopWriter};
 use just_bench_failing::FailingEvaluation;
 use just_data::Text;
 use just_examples_format::asked::Asked;
-use just_examples_format::faults::add_fault;
+use just_examples_format::faults::unless_fault;
 use just_examples_format::lists::{add_group, add_list, before};
 use just_invoke::{Invocation, InvocationParser, Report, Run};
 use just_justfile::{Justfile, Recipes};
@@ -118,7 +118,7 @@ fn add_ended<'src, 'pairs>(
     requires overridden { HoldsOverridden root.now overrides.now }
 {
     let mut writer = StopWriter::new(alloc, 0)?;
-    match run_under(
+    let ended = run_under(
         root,
         recipes,
         overrides,
@@ -129,9 +129,10 @@ fn add_ended<'src, 'pairs>(
         &mut writer,
         config,
         words,
-    ) {
-        Ok(report) => add_calls(text, report.calls.as_slice()),
-        Err(error) => add_fault(text, &error),
+    );
+    match unless_fault(ended, text)? {
+        Some(report) => add_calls(text, report.calls.as_slice()),
+        None => Ok(()),
     }
 }
 

@@ -1,8 +1,9 @@
 //! Calls of items and parameters, of a configuration, and of values.
+use crate::recipes::first_recipe;
 use just_bench_reading::parse;
 use just_bench_syntax::PlainSyntax;
 use just_examples_format::asked::read_asked;
-use just_examples_format::faults::add_fault;
+use just_examples_format::faults::unless_fault;
 use just_parts::UnresolvedRecipe;
 use just_parts::layers::{Edge, Item, Parameter};
 use just_paths::Modulepath;
@@ -23,16 +24,15 @@ pub fn answer_item(alloc: Global, call: &str, text: &str) -> Result<Option<Strin
     if call != "edge" {
         return Ok(None);
     }
-    let mut answer = String::from_str(alloc, call)?;
-    match parse(alloc, &PlainSyntax::new(), text) {
-        Ok(ast) => {
-            for item in ast.items.as_slice() {
-                add_edge(item, &mut answer)?;
-            }
-            answer.push('\n')?;
-        }
-        Err(error) => add_fault(&mut answer, &error)?,
+    let mut answer = String::new(alloc);
+    let Some(ast) = unless_fault(parse(alloc, &PlainSyntax::new(), text), &mut answer)? else {
+        return Ok(Some(answer));
+    };
+    answer.push_str(call)?;
+    for item in ast.items.as_slice() {
+        add_edge(item, &mut answer)?;
     }
+    answer.push('\n')?;
     Ok(Some(answer))
 }
 
@@ -47,12 +47,13 @@ fn tested(call: &str, parameter: &Parameter) -> Option<bool> {
     }
 }
 
-// Adds the names of the parameters that pass a test. It answers whether there is such a test.
+// Adds the line of the parameters that pass a test. It answers whether there is such a test.
 fn add_tested(
     call: &str,
     recipe: &UnresolvedRecipe,
     text: &mut String,
 ) -> Result<bool, AllocError> {
+    text.push_str(call)?;
     for parameter in recipe.parameters.as_slice() {
         match tested(call, parameter) {
             Some(true) => write!(text, " {}", parameter.name)?,
@@ -60,6 +61,7 @@ fn add_tested(
             None => return Ok(false),
         }
     }
+    text.push('\n')?;
     Ok(true)
 }
 
@@ -70,20 +72,14 @@ pub fn answer_parameter(
     text: &str,
 ) -> Result<Option<String>, AllocError> {
     let mut answer = String::new(alloc);
-    match parse(alloc, &PlainSyntax::new(), text) {
-        Ok(ast) => {
-            let Some(Item::Recipe(recipe)) = ast.items.get(0) else {
-                return Ok(None);
-            };
-            answer.push_str(call)?;
-            if !add_tested(call, recipe, &mut answer)? {
-                return Ok(None);
-            }
-            answer.push('\n')?;
-        }
-        Err(error) => add_fault(&mut answer, &error)?,
-    }
-    Ok(Some(answer))
+    let Some(ast) = unless_fault(parse(alloc, &PlainSyntax::new(), text), &mut answer)? else {
+        return Ok(Some(answer));
+    };
+    let Some(recipe) = first_recipe(&ast) else {
+        return Ok(None);
+    };
+    let is_call = add_tested(call, recipe, &mut answer)?;
+    Ok(is_call.then_some(answer))
 }
 
 /// Answers with the value by which options override a variable: the words behind them are the path of its module and its name.

@@ -3,24 +3,32 @@ use crate::halves;
 use just_bench_reading::parse;
 use just_bench_syntax::PlainSyntax;
 use just_data::BorrowedText;
-use just_examples_format::faults::add_fault;
-use just_parts::layers::{Error, Item, Name, Namepath, Token};
+use just_examples_format::faults::unless_fault;
+use just_parts::layers::{Item, Name, Namepath, Token};
 use just_paths::Modulepath;
 use std::alloc::{AllocError, Global};
 
-// The names of the recipes of a text.
-pub(crate) fn recipe_names<'src>(
-    alloc: Global,
-    text: &'src str,
-) -> Result<Vec<Name<'src>>, Error<'src>> {
-    let ast = parse(alloc, &PlainSyntax::new(), text)?;
+// The names of recipes.
+fn names_in<'src>(alloc: Global, items: &[Item<'src>]) -> Result<Vec<Name<'src>>, AllocError> {
     let mut names = Vec::new(alloc);
-    for item in ast.items.as_slice() {
+    for item in items {
         if let Item::Recipe(recipe) = item {
             names.push(recipe.name.copied())?;
         }
     }
     Ok(names)
+}
+
+// The names of the recipes of a text, or none where it has a fault, which is added.
+pub(crate) fn recipe_names<'src>(
+    alloc: Global,
+    text: &'src str,
+    answer: &mut String,
+) -> Result<Option<Vec<Name<'src>>>, AllocError> {
+    match unless_fault(parse(alloc, &PlainSyntax::new(), text), answer)? {
+        Some(ast) => Ok(Some(names_in(alloc, ast.items.as_slice())?)),
+        None => Ok(None),
+    }
 }
 
 // What a call of a token gives.
@@ -81,12 +89,8 @@ fn answer_each(
     text: &str,
 ) -> Result<Option<String>, AllocError> {
     let mut answer = String::new(alloc);
-    let names = match recipe_names(alloc, text) {
-        Ok(names) => names,
-        Err(error) => {
-            add_fault(&mut answer, &error)?;
-            return Ok(Some(answer));
-        }
+    let Some(names) = recipe_names(alloc, text, &mut answer)? else {
+        return Ok(Some(answer));
     };
     answer.push_str(call)?;
     for name in &names {
@@ -185,16 +189,12 @@ pub fn answer_namepath(
     text: &str,
 ) -> Result<Option<String>, AllocError> {
     let mut answer = String::new(alloc);
-    let names = match recipe_names(alloc, text) {
-        Ok(names) => names,
-        Err(error) => {
-            add_fault(&mut answer, &error)?;
-            return Ok(Some(answer));
-        }
+    let Some(names) = recipe_names(alloc, text, &mut answer)? else {
+        return Ok(Some(answer));
     };
     let Some(path) = namepath_of(alloc, names.as_slice())? else {
         return Ok(None);
     };
     let is_call = add_namepath(alloc, call, &path, &mut answer)?;
-    Ok(if is_call { Some(answer) } else { None })
+    Ok(is_call.then_some(answer))
 }

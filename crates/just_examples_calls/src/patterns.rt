@@ -1,7 +1,7 @@
 //! Calls of patterns.
 use crate::halves;
 use just_data::{BorrowedText, Text};
-use just_examples_format::faults::add_fault;
+use just_examples_format::faults::unless_fault;
 use just_parts::layers::{Error, Pattern, Token};
 use std::alloc::{AllocError, Global};
 
@@ -21,6 +21,7 @@ fn add_asked(
     answer: &mut String,
 ) -> Result<bool, AllocError> {
     match call {
+        "new" => writeln!(answer, "new {}", pattern.as_str().len())?,
         "as_str" => writeln!(answer, "as_str {}", pattern.as_str())?,
         "clone" => writeln!(answer, "clone {}", pattern.clone()?.as_str())?,
         "is_match" => writeln!(answer, "is_match {}", pattern.is_match(alloc, text)?)?,
@@ -36,14 +37,9 @@ pub fn answer_pattern(alloc: Global, call: &str, rest: &str) -> Result<Option<St
         _ => (rest, ""),
     };
     let mut answer = String::new(alloc);
-    match pattern_of(alloc, regex) {
-        Ok(pattern) if call == "new" => writeln!(answer, "new {}", pattern.as_str().len())?,
-        Ok(pattern) => {
-            if !add_asked(alloc, call, &pattern, text, &mut answer)? {
-                return Ok(None);
-            }
-        }
-        Err(error) => add_fault(&mut answer, &error)?,
-    }
-    Ok(Some(answer))
+    let Some(pattern) = unless_fault(pattern_of(alloc, regex), &mut answer)? else {
+        return Ok(Some(answer));
+    };
+    let is_call = add_asked(alloc, call, &pattern, text, &mut answer)?;
+    Ok(is_call.then_some(answer))
 }

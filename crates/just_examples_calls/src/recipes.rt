@@ -3,7 +3,7 @@ use crate::halves;
 use just_bench_reading::parse;
 use just_bench_syntax::PlainSyntax;
 use just_data::Sequence;
-use just_examples_format::faults::add_fault;
+use just_examples_format::faults::{add_fault, unless_fault};
 use just_parts::layers::{Ast, DependencyArgument, Error, Item, Number, Settings};
 use just_parts::{Dependency, Recipe, UnresolvedRecipe};
 use just_paths::Modulepath;
@@ -134,7 +134,7 @@ fn add_grouped(
 fn add_default(recipe: &UnresolvedRecipe, text: &mut String) -> Result<(), AllocError> {
     match recipe.check_can_be_default_recipe() {
         Ok(()) => text.push_str("can be the default\n"),
-        Err(error) => add_fault(text, &Error::Invocation(error)),
+        Err(error) => add_fault(text, Error::Invocation(error)),
     }
 }
 
@@ -158,6 +158,7 @@ fn add_recipe(
         "group_arguments" => add_grouped(alloc, settings, recipe, text)?,
         "check_can_be_default_recipe" => add_default(recipe, text)?,
         "is_script" => writeln!(text, "is_script {}", recipe.is_script(settings))?,
+        "name" => writeln!(text, "name {}", recipe.name())?,
         _ => return add_resolved(call, &resolved(alloc, recipe)?, text),
     }
     Ok(true)
@@ -195,12 +196,9 @@ fn add_parsed(
     text: &str,
     answer: &mut String,
 ) -> Result<bool, AllocError> {
-    match parse(alloc, &PlainSyntax::new(), text) {
-        Ok(ast) => add_first(alloc, call, settings, &ast, answer),
-        Err(error) => {
-            add_fault(answer, &error)?;
-            Ok(true)
-        }
+    match unless_fault(parse(alloc, &PlainSyntax::new(), text), answer)? {
+        Some(ast) => add_first(alloc, call, settings, &ast, answer),
+        None => Ok(true),
     }
 }
 
@@ -210,9 +208,6 @@ pub fn answer_recipe(alloc: Global, call: &str, rest: &str) -> Result<Option<Str
     let (words, text) = halves(rest);
     let settings = settings_of(words);
     let mut answer = String::new(alloc);
-    if add_parsed(alloc, call, &settings, text, &mut answer)? {
-        Ok(Some(answer))
-    } else {
-        Ok(None)
-    }
+    let is_call = add_parsed(alloc, call, &settings, text, &mut answer)?;
+    Ok(is_call.then_some(answer))
 }

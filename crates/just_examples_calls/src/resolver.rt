@@ -6,11 +6,11 @@ use just_ast_references::{Reference, References};
 use just_bench_reading::parse;
 use just_bench_syntax::PlainSyntax;
 use just_data::{BorrowedText, Sequence, Text, copied};
-use just_examples_format::faults::add_fault;
+use just_examples_format::faults::unless_fault;
 use just_module_variables::VariableResolver;
 use just_parts::UnresolvedRecipe;
 use just_parts::layers::{
-    Assignment, Error, Expression, FunctionDefinition, FunctionParameter, Item, Name, Number, Shape,
+    Assignment, Expression, FunctionDefinition, FunctionParameter, Item, Name, Number, Shape,
 };
 use just_table::Table;
 use std::alloc::{AllocError, Global};
@@ -133,20 +133,23 @@ struct Asked<'a, 'src> {
 }
 
 impl<'a, 'src> Asked<'a, 'src> {
-    // Checks the calls in an expression, and adds each that keeps the rules.
+    // Checks the calls in an expression, and adds each that keeps the rules. It answers whether all do.
     fn add_calls(
         &self,
         alloc: Global,
         expression: &Expression<'src>,
         text: &mut String,
-    ) -> Result<(), Error<'src>> {
+    ) -> Result<bool, AllocError> {
         for reference in References::new(alloc, expression)? {
             if let Reference::Call { name, arguments } = reference {
-                self.resolver.resolve_call(&name, arguments)?;
+                let resolved = self.resolver.resolve_call(&name, arguments);
+                if unless_fault(resolved, text)?.is_none() {
+                    return Ok(false);
+                }
                 writeln!(text, "known {name}/{arguments}")?;
             }
         }
-        Ok(())
+        Ok(true)
     }
 
     // Adds the line of the names of the variables that have these numbers.
@@ -196,25 +199,30 @@ impl<'a, 'src> Asked<'a, 'src> {
         self.add_visited(&visited, text)
     }
 
-    // Resolves an expression, and adds its numbers and which variables it needs.
+    // Resolves an expression, and adds its numbers and which variables it needs. It answers whether it is resolved.
     fn add_resolved(
         &self,
         alloc: Global,
         expression: &Expression<'src>,
         parameters: &[FunctionParameter<'src>],
         text: &mut String,
-    ) -> Result<(), Error<'src>> {
-        let mut resolved = expression.clone()?;
+    ) -> Result<bool, AllocError> {
+        let mut expression = expression.clone()?;
         let mut references = HashSet::new(alloc);
-        self.resolver
-            .resolve_expression(alloc, &mut resolved, parameters, &mut references)?;
+        let resolved = self
+            .resolver
+            .resolve_expression(alloc, &mut expression, parameters, &mut references);
+        if unless_fault(resolved, text)?.is_none() {
+            return Ok(false);
+        }
         text.push_str("resolved")?;
-        add_numbers(&resolved, text)?;
+        add_numbers(&expression, text)?;
         text.push('\n')?;
-        Ok(self.add_needed(&references, text)?)
+        self.add_needed(&references, text)?;
+        Ok(true)
     }
 
-    // Adds what a call gives for an expression under parameters.
+    // Adds what a call gives for an expression under parameters. It answers whether no fault was added.
     fn add_expression(
         &self,
         alloc: Global,
@@ -222,14 +230,13 @@ impl<'a, 'src> Asked<'a, 'src> {
         expression: &Expression<'src>,
         parameters: &[FunctionParameter<'src>],
         text: &mut String,
-    ) -> Result<(), Error<'src>> {
+    ) -> Result<bool, AllocError> {
         match call {
-            "resolve_call" => self.add_calls(alloc, expression, text),
-            "collect_references" => {
-                Ok(self.add_references(alloc, expression, parameters, text)?)
-            }
-            _ => self.add_resolved(alloc, expression, parameters, text),
+            "resolve_call" => return self.add_calls(alloc, expression, text),
+            "collect_references" => self.add_references(alloc, expression, parameters, text)?,
+            _ => return self.add_resolved(alloc, expression, parameters, text),
         }
+        Ok(true)
     }
 
     // The parameters of the function of a name, or none where there is no such function.
@@ -244,61 +251,99 @@ impl<'a, 'src> Asked<'a, 'src> {
         }
     }
 
-    // Adds what a call gives for the defaults of a recipe's parameters.
+    // Adds what a call gives for the defaults of a recipe's parameters. It answers whether no fault was added.
     fn add_recipe(
         &self,
         alloc: Global,
         call: &str,
         recipe: &UnresolvedRecipe<'src>,
         text: &mut String,
-    ) -> Result<(), Error<'src>> {
+    ) -> Result<bool, AllocError> {
         let hidden = self.hidden_by(alloc, recipe.name.lexeme())?;
         for parameter in recipe.parameters.as_slice() {
             if let Some(expression) = &parameter.default {
-                self.add_expression(alloc, call, expression, hidden.as_slice(), text)?;
+                if !self.add_expression(alloc, call, expression, hidden.as_slice(), text)? {
+                    return Ok(false);
+                }
+            }
+        }
+        Ok(true)
+    }
+
+    // Adds what a call gives for the recipes among what a text says, up to the first fault.
+    fn add_recipes(
+        &self,
+        alloc: Global,
+        call: &str,
+        items: &[Item<'src>],
+        text: &mut String,
+    ) -> Result<(), AllocError> {
+        for item in items {
+            if let Item::Recipe(recipe) = item {
+                if !self.add_recipe(alloc, call, recipe, text)? {
+                    return Ok(());
+                }
             }
         }
         Ok(())
     }
 }
 
-// Adds what a call gives for what a text says, where some variables are overridden.
-fn add_answer<'src>(
+// Adds what a call gives for what a text says, where its variables have numbers and some are overridden.
+fn add_resolver<'src>(
     alloc: Global,
     call: &str,
     overridden: &str,
-    text: &'src str,
+    definitions: &Definitions<'src>,
+    numbers: HashMap<BorrowedText<'src>, Number>,
+    items: &[Item<'src>],
     answer: &mut String,
-) -> Result<(), Error<'src>> {
-    let syntax = PlainSyntax::new();
-    let ast = parse(alloc, &syntax, text)?;
-    let items = ast.items.as_slice();
+) -> Result<(), AllocError> {
     let Definitions {
-        mut assignments,
-        mut functions,
-    } = definitions_of(alloc, items)?;
-    let (numbers, order) = VariableResolver::resolve_assignments(
-        alloc,
-        &mut assignments,
-        &mut functions,
-        &syntax,
-    )?;
-    if call == "resolve_assignments" {
-        add_order(&assignments, &numbers, order.as_slice(), answer)?;
-        return Ok(add_tables(&assignments, &functions, answer)?);
-    }
-    let overrides = overrides_of(alloc, overridden, &assignments)?;
+        assignments,
+        functions,
+    } = definitions;
+    let syntax = PlainSyntax::new();
+    let overrides = overrides_of(alloc, overridden, assignments)?;
     let asked = Asked {
-        resolver: VariableResolver::new(&assignments, numbers, &functions, &overrides, &syntax),
-        assignments: &assignments,
-        functions: &functions,
+        resolver: VariableResolver::new(assignments, numbers, functions, &overrides, &syntax),
+        assignments,
+        functions,
     };
-    for item in items {
-        if let Item::Recipe(recipe) = item {
-            asked.add_recipe(alloc, call, recipe, answer)?;
-        }
+    asked.add_recipes(alloc, call, items, answer)
+}
+
+// Adds what a call gives for what a text says, where some variables are overridden.
+fn add_items<'src>(
+    alloc: Global,
+    call: &str,
+    overridden: &str,
+    items: &[Item<'src>],
+    answer: &mut String,
+) -> Result<(), AllocError> {
+    let mut definitions = definitions_of(alloc, items)?;
+    let resolved = VariableResolver::resolve_assignments(
+        alloc,
+        &mut definitions.assignments,
+        &mut definitions.functions,
+        &PlainSyntax::new(),
+    );
+    let Some((numbers, order)) = unless_fault(resolved, answer)? else {
+        return Ok(());
+    };
+    if call == "resolve_assignments" {
+        add_order(&definitions.assignments, &numbers, order.as_slice(), answer)?;
+        return add_tables(&definitions.assignments, &definitions.functions, answer);
     }
-    Ok(())
+    add_resolver(
+        alloc,
+        call,
+        overridden,
+        &definitions,
+        numbers,
+        items,
+        answer,
+    )
 }
 
 /// Answers what a call of a resolver gives for the text behind a ` | `, where the variables that are named before it are
@@ -314,8 +359,8 @@ pub fn answer_resolver(
         "resolve_assignments" | "resolve_call" | "collect_references" | "resolve_expression" => {}
         _ => return Ok(None),
     }
-    if let Err(error) = add_answer(alloc, call, overridden, text, &mut answer) {
-        add_fault(&mut answer, &error)?;
+    if let Some(ast) = unless_fault(parse(alloc, &PlainSyntax::new(), text), &mut answer)? {
+        add_items(alloc, call, overridden, ast.items.as_slice(), &mut answer)?;
     }
     Ok(Some(answer))
 }

@@ -2,10 +2,10 @@
 use crate::halves;
 use crate::names::recipe_names;
 use just_bench_reading::root_source;
-use just_examples_format::faults::add_fault;
+use just_examples_format::faults::unless_fault;
 use just_examples_format::lists::add_list;
 use just_parts::Source;
-use just_parts::layers::Error;
+use just_parts::layers::{Error, Name};
 use just_paths::is_clean;
 use std::alloc::{AllocError, Global};
 
@@ -46,19 +46,15 @@ fn depth_and_text<'src>(given: &'src str) -> (u64, &'src str) {
     }
 }
 
-// The file at a path of the module of a text's last recipe, which stands in those of the recipes before it. A path that is not
-// clean has no module, and a text without recipes names none: then it is the root. Where a number stands before the text, the
-// root has this depth.
-fn declared<'src>(
+// The file at a path of a module in the one of a source, and in that the next, as names tell.
+fn inside<'src>(
     alloc: Global,
+    source: Source<'src>,
     path: &str,
-    given: &'src str,
+    names: &[Name<'src>],
 ) -> Result<Source<'src>, Error<'src>> {
-    let (depth, text) = depth_and_text(given);
-    let names = recipe_names(alloc, text)?;
-    let mut source = root_source(alloc)?;
-    source.file_depth = depth;
-    for name in &names {
+    let mut source = source;
+    for name in names {
         if !is_clean(path) {
             return Ok(source);
         }
@@ -67,19 +63,36 @@ fn declared<'src>(
     Ok(source)
 }
 
+// The file at a path of the module of a text's last recipe, which stands in those of the recipes before it, or none where there
+// is a fault, which is added. A path that is not clean has no module, and a text without recipes names none: then it is the
+// root. Where a number stands before the text, the root has this depth.
+fn declared<'src>(
+    alloc: Global,
+    path: &str,
+    given: &'src str,
+    answer: &mut String,
+) -> Result<Option<Source<'src>>, AllocError> {
+    let (depth, text) = depth_and_text(given);
+    let Some(names) = recipe_names(alloc, text, answer)? else {
+        return Ok(None);
+    };
+    let mut source = root_source(alloc)?;
+    source.file_depth = depth;
+    unless_fault(inside(alloc, source, path, names.as_slice()), answer)
+}
+
 /// Answers how a file came in: the root, a file that is imported at a path and an offset, and a file of a module.
 pub fn answer_source(alloc: Global, call: &str, rest: &str) -> Result<Option<String>, AllocError> {
     let (path, given) = halves(rest);
+    let mut answer = String::new(alloc);
     let made = match call {
-        "root" => Ok(root_source(alloc)?),
-        "import" => imported(alloc, path, given),
-        "module" => declared(alloc, path, given),
+        "root" => Some(root_source(alloc)?),
+        "import" => unless_fault(imported(alloc, path, given), &mut answer)?,
+        "module" => declared(alloc, path, given, &mut answer)?,
         _ => return Ok(None),
     };
-    let mut text = String::new(alloc);
-    match made {
-        Ok(source) => add_source(alloc, &source, &mut text)?,
-        Err(error) => add_fault(&mut text, &error)?,
+    if let Some(source) = made {
+        add_source(alloc, &source, &mut answer)?;
     }
-    Ok(Some(text))
+    Ok(Some(answer))
 }

@@ -2,7 +2,7 @@
 use crate::recipes::first_recipe;
 use just_bench_reading::parse;
 use just_bench_syntax::PlainSyntax;
-use just_examples_format::faults::add_fault;
+use just_examples_format::faults::unless_fault;
 use just_parts::layers::{Line, Settings, Sigil, Syntax};
 use std::alloc::{AllocError, Global};
 
@@ -56,16 +56,13 @@ fn answer_lines(alloc: Global, call: &str, lines: &[Line]) -> Result<Option<Stri
 
 // Answers what a call gives for the lines of a text's first recipe.
 fn answer_body(alloc: Global, call: &str, text: &str) -> Result<Option<String>, AllocError> {
-    match parse(alloc, &PlainSyntax::new(), text) {
-        Ok(ast) => match first_recipe(&ast) {
-            Some(recipe) => answer_lines(alloc, call, recipe.body.as_slice()),
-            None => Ok(None),
-        },
-        Err(error) => {
-            let mut answer = String::new(alloc);
-            add_fault(&mut answer, &error)?;
-            Ok(Some(answer))
-        }
+    let mut fault = String::new(alloc);
+    let Some(ast) = unless_fault(parse(alloc, &PlainSyntax::new(), text), &mut fault)? else {
+        return Ok(Some(fault));
+    };
+    match first_recipe(&ast) {
+        Some(recipe) => answer_lines(alloc, call, recipe.body.as_slice()),
+        None => Ok(None),
     }
 }
 

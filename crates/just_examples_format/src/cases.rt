@@ -42,32 +42,34 @@ fn add_missing(found: &mut String, answer: &str, line: &str) -> Result<(), Alloc
     writeln!(found, "  wanted: {line}\n  found:  {other}")
 }
 
-// Whether a line is told under a number, as an item of a text is.
-fn is_numbered(line: &str) -> bool {
-    line.starts_with(|c: char| c.is_ascii_digit())
+// The kind of a line: its first word, or one kind for all that are told under a number, as the items of a text are.
+fn kind_of(line: &str) -> &str {
+    if line.starts_with(|c: char| c.is_ascii_digit()) {
+        return "0";
+    }
+    line.split(' ').next().unwrap_or(line)
 }
 
-// Adds which numbered lines an answer has beyond those that are wanted, where some are: they are wanted all or none.
+// Adds which lines an answer has beyond those that are wanted of their kind, where some are.
 fn add_surplus(
     found: &mut String,
     alloc: Global,
     answer: &str,
     wanted: &str,
 ) -> Result<(), AllocError> {
-    if !wanted.split('\n').any(is_numbered) {
-        return Ok(());
-    }
     let wanted = meant(alloc, wanted)?;
     for line in answer.split('\n') {
-        if is_numbered(line) && !has_line(wanted.as_str(), line) {
+        let kind = kind_of(line);
+        let is_asked = wanted.split('\n').any(|other| kind_of(other) == kind);
+        if is_asked && !kind.is_empty() && !has_line(wanted.as_str(), line) {
             writeln!(found, "  more:   {line}")?;
         }
     }
     Ok(())
 }
 
-/// Adds which of the wanted lines an answer lacks, which numbered lines it has beyond those, where some are wanted, and its
-/// fault where none is wanted.
+/// Adds which of the wanted lines an answer lacks, which lines it has beyond those that are wanted of their kind, where some
+/// are, and its fault where none is wanted. A kind is the first word of a line, or that a line begins with a digit.
 pub fn add_differences(
     found: &mut String,
     alloc: Global,

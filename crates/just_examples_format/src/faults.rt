@@ -306,8 +306,8 @@ fn add_message(text: &mut String, error: &Error) -> Result<(), AllocError> {
     }
 }
 
-/// Adds the lines of a fault: its name with its fields, what it says, and its token where it has one.
-pub fn add_fault(text: &mut String, error: &Error) -> Result<(), AllocError> {
+// Adds the lines of a fault.
+fn add_lines(text: &mut String, error: &Error) -> Result<(), AllocError> {
     write!(text, "error {}", error.name())?;
     add_fields(text, error)?;
     text.push('\n')?;
@@ -315,4 +315,25 @@ pub fn add_fault(text: &mut String, error: &Error) -> Result<(), AllocError> {
         add_place(text, token)?;
     }
     add_message(text, error)
+}
+
+/// Adds the lines of a fault, and drops it: its name with its fields, its token where it has one, and what it says.
+pub fn add_fault(text: &mut String, error: Error) -> Result<(), AllocError> {
+    let added = add_lines(text, &error);
+    drop(error);
+    added
+}
+
+/// What was made, or none where there is a fault, whose lines are added.
+pub fn unless_fault<'src, T>(
+    made: Result<T, Error<'src>>,
+    text: &mut String,
+) -> Result<Option<T>, AllocError> {
+    match made {
+        Ok(value) => Ok(Some(value)),
+        Err(error) => {
+            add_fault(text, error)?;
+            Ok(None)
+        }
+    }
 }

@@ -13,6 +13,7 @@ mod scanned;
 pub mod sources;
 
 pub use files::load;
+pub use links::link;
 pub use loaded::Loaded;
 pub use module_file::{find_module_file, relative_path};
 pub use sources::Sources;

@@ -106,8 +106,9 @@ fn link_module<'src>(
     }
 }
 
-/// The path to which an item of a file in a folder leads, or none, or its fault.
-pub(crate) fn link<'src, S: Syntax>(
+/// The path of the file to which an item of a file in a folder leads, or none: the item leads to no file, is not enabled, or
+/// is optional and its file is not there. The error is what is at fault with the item, or want of memory.
+pub fn link<'src, S: Syntax>(
     alloc: Global,
     item: &Item<'src>,
     config: &Config,

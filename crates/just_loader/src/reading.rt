@@ -1,10 +1,9 @@
 //! Texts that are read in a scan, and taken where the first node of their file comes.
 
-ghost use Rattle.std.specs.Prelude.{◌≡◌, ◌≢◌, ◌^◌, ◌≤◌, [], None, Some, Ok, map, false, length, set, slice_get, ◌↔◌, IfErr, IfNone, IfOk, IfSome, IsErrOf, IsTrue, OnOk};
-ghost use Rattle.just_parts.specs.Bare.{bare_item};
+ghost use Rattle.std.specs.Prelude.{◌≡◌, ◌≢◌, ◌^◌, ◌≤◌, [], None, Some, Ok, map, false, set, slice_get, IfErr, IfNone, IfOk, IfSome, IsErrOf, OnOk};
 ghost use Rattle.just_parts.specs.Syntax.{Refuses, components_of, numbers};
 ghost use Rattle.just_parts.specs.Items.{Ast};
-ghost use Rattle.just_loader.specs.Reading.{AreReadOf, IsBroughtIn, IsRead, IsReadBy, TakesText, brought_in, takes};
+ghost use Rattle.just_loader.specs.Reading.{IsBroughtIn, IsRead, IsReadBy, TakesText, brought_in, takes};
 
 use crate::scanned::ScannedFile;
 use just_data::Sequence;
@@ -48,25 +47,19 @@ impl<'src> ReadTexts<'src> {
     }
 }
 
-// Whether there were not as many numbers as an answer takes.
-fn is_exhausted<'src, T>(answer: &Result<T, Error<'src>>) -> bool
-    ensures { IsTrue result ↔ IsErrOf answer.now Error.Exhausted }
-{
-    matches!(answer, Err(Error::Exhausted))
-}
-
 // An answer, or none where there were not as many numbers as it takes.
-pub(crate) fn unless_exhausted<'src, T: Drop>(
+pub(crate) fn unless_exhausted<'src, T>(
     answer: Result<T, Error<'src>>,
 ) -> Result<Option<T>, Error<'src>>
     ensures value { IfOk result (λ found. IfSome found (λ value. answer.entry ≡ Ok value)) }
     ensures none { IfOk result (λ found. IfNone found (IsErrOf answer.entry Error.Exhausted)) }
     ensures error { IfErr result (λ e. IsErrOf answer.entry e × (e ≢ Error.Exhausted)) }
 {
-    if is_exhausted(&answer) {
-        return Ok(None);
+    match answer {
+        Ok(value) => Ok(Some(value)),
+        Err(Error::Exhausted) => Ok(None),
+        Err(error) => Err(error),
     }
-    Ok(Some(answer?))
 }
 
 // The path of a module, from its names.

@@ -1,12 +1,9 @@
-pub mod Aliasing
 pub mod Barred
 pub mod Counted
-pub mod Defaults
 pub mod Finding
 pub mod Finished
 pub mod Grounds
 pub mod Held
-pub mod Later
 pub mod Made
 pub mod Nearby
 pub mod Ordering

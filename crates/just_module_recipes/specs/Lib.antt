@@ -1,4 +1,3 @@
-pub mod Aliased
 pub mod Broken
 pub mod Completed
 pub mod Completing

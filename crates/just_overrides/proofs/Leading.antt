@@ -12,9 +12,9 @@ use Rattle.just_justfile.specs.Walks as walks
 use Rattle.just_justfile.specs.Walks.{End, end_of_names, inner_along, module_named, recipe_from}
 use Rattle.just_justfile.specs.declared.aliases.Aliases.{Aliases}
 use Rattle.just_justfile.specs.declared.justfile.Justfile.{Justfile, out-Justfile}
-use Rattle.just_module_recipes.specs.Aliased.{aimed, as_module_alias, as_recipe, alias_meant, modules_among, name_of_alias, targets_of}
-use Rattle.just_module_recipes.specs.declared.aliases.Meaning.{Meaning}
-use Rattle.just_module_recipes.specs.declared.aliases.Meaning.TheVariants as meaning
+use Rattle.just_module_aliases.specs.Aliased.{aimed, as_module_alias, as_recipe, alias_meant, modules_among, name_of_alias, targets_of}
+use Rattle.just_module_aliases.specs.declared.aliases.Meaning.{Meaning}
+use Rattle.just_module_aliases.specs.declared.aliases.Meaning.TheVariants as meaning
 use Rattle.just_module_tree.specs.Modules.{Forest, Module, contents_of}
 use Rattle.just_module_tree.specs.Overrides.{Reaches, StepsTo, at_end, by_step, to_aliased, to_inner}
 use Rattle.just_module_tree.specs.Standing as trees

@@ -12,7 +12,7 @@ use Rattle.just_paths.specs.declared.modulepath.Modulepath.{Modulepath}
 use Rattle.just_recipe.specs.declared.dependency.Dependency.{Dependency}
 use Rattle.just_recipe.specs.declared.dependency.UnresolvedDependency.{UnresolvedDependency}
 use Rattle.just_recipe.specs.declared.recipe.Recipe.{Recipe}
-use Rattle.just_recipe_resolver.specs.Basis.{Basis, BreaksOn, TellsOn, completion_on}
+use Rattle.just_recipe_resolution.specs.Basis.{Basis, BreaksOn, TellsOn, completion_on}
 use Rattle.just_recipe_resolver.specs.Resolved.{GivesWrongly, IsResolvedTo}
 
 -- by what the layers answer and the basis

@@ -1,4 +1,3 @@
 mod Along
 mod Given
-pub mod Needed
 mod Placed

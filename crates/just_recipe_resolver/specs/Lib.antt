@@ -1,2 +1,1 @@
-pub mod Basis
 pub mod Resolved

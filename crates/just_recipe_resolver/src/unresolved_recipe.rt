@@ -5,11 +5,10 @@ ghost use Rattle.just_errors.specs.Causes.{Keeps, Reports};
 ghost use Rattle.just_module_contents.specs.Recipes.{lent, name_of};
 ghost use Rattle.just_module_contents.specs.Resolved.{path_to};
 ghost use Rattle.just_recipe.specs.Resolved.{resolved};
-ghost use Rattle.just_recipe_resolver.specs.Basis.{BreaksOn, IsRecipeCovered, TellsOn, basis_by, basis_of, completion_on};
+ghost use Rattle.just_recipe_resolution.specs.Basis.{BreaksOn, IsRecipeCovered, TellsOn, basis_by, basis_of, completion_on};
 ghost use Rattle.just_recipe_resolver.specs.Resolved.{GivesWrongly, IsCompleted, IsResolvedTo, link_to, links_to};
 
 use crate::recipe_resolver::resolving_by;
-use crate::resolution::Resolving;
 use just_data::Sequence;
 use just_module_recipes::{Completing, check_arguments, complete};
 use just_module_variables::VariableResolver;
@@ -20,6 +19,7 @@ use just_parts::layers::{
 use just_parts::{Dependency, Recipe, UnresolvedRecipe};
 use just_paths::Modulepath;
 use just_recipe_needs::RecipeReferences;
+use just_recipe_resolution::Resolving;
 use std::alloc::{AllocError, Global};
 
 // The recipes that a recipe depends on, one beside each of its dependencies.

@@ -7,7 +7,7 @@ use Rattle.just_paths.specs.Clean.{IsClean}
 use Rattle.just_errors.specs.declared.error.Error.{Error}
 use Rattle.just_parts.specs.declared.layers.config.Config.{Config}
 use Rattle.just_parts.specs.Layers.{IsByDefault}
-use Rattle.just_loader.specs.Reached.{world_of}
+use Rattle.just_loader.specs.Reached.{World, world_of}
 use Rattle.just_loader.specs.Sources.{Files, text_at}
 use Rattle.just_compiler.specs.Compiled.{Compilation, Compiles}
 use Rattle.just_bench_syntax.specs.Answers.{answers}
@@ -15,6 +15,7 @@ use Rattle.just_bench_values.specs.Constants.{evaluator}
 use Rattle.just_bench_bundle.specs.Bundle.{HoldsBundle, IsNoBundle}
 use Rattle.just_bench_bundle.specs.Input.{IsUnread}
 use Rattle.just_bench_bundle.specs.Near.{paths_like}
+use Rattle.just_bench_bundle.specs.Places.{IsLineOf}
 use Rattle.just_bench.specs.Entries.{entry_lines}
 use Rattle.just_bench.specs.Ran.{IsRunFault, Ran, plain_front}
 use Rattle.just_bench.specs.Writing.{GetsBeginning}
@@ -39,11 +40,16 @@ pub record IsDoneOver (files : Files) (root : Text) (words : List Text) (old new
   pub succeeded : IsOk run.ran.result
   pub written : Appends old new (entry_lines run.ran.entries)
 
+-- what is told of an error of compiling: the error, and it may be a line on which stands what it tells of
+abbrev pub TellsUncompiled : World → Error → ProgramError → Type 0
+TellsUncompiled w e (program.Analyzer told line) = (told ≡ e) × IfSome line (IsLineOf w e)
+TellsUncompiled w e _ = ⊥
+
 -- Why they are not done, and what an output then has: there is no file at the root, and these are like it, or it is not compiled, or
 -- memory is wanting, and nothing is written; or the run tells it, and a beginning of its lines is.
 pub data IsFaultOver (files : Files) (root : Text) (words : List Text) (old new : Option (List ℕ)) : ProgramError → Type 0 where
   missing : (told : Bor Text) → told.now ≡ root → text_at files root ≡ None → new ≡ old → IsFaultOver files root words old new (program.NoRoot told (paths_like files root))
-  uncompiled : (config : Config) (e : Error) → IsByDefault config → Comes files config root (Err e) → new ≡ old → IsFaultOver files root words old new (program.Analyzer e)
+  uncompiled : (config : Config) (e : Error) (told : ProgramError) → IsByDefault config → Comes files config root (Err e) → TellsUncompiled (world_of files config (answers []) root) e told → new ≡ old → IsFaultOver files root words old new told
   ended : (run : RunsOver files root words) (e : ProgramError) → IsRunFault run.ran.result e → GetsBeginning old new (entry_lines run.ran.entries) → IsFaultOver files root words old new e
   refused : new ≡ old → IsFaultOver files root words old new program.Memory
 

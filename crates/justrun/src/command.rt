@@ -3,6 +3,7 @@ ghost use Rattle.std.specs.Prelude.{◌≡◌, ◌≢◌, ◌<◌, ℕ, [], ◌�
 ghost use Rattle.std.specs.Io.KnownBytes.{Appends, IsAtEnd};
 ghost use Rattle.just_analyzer.specs.Words.{CanRun, HoldsOverridden, IsClean, texts};
 ghost use Rattle.just_names.specs.Texts.{Text};
+ghost use Rattle.just_loader.specs.Reached.{world_of};
 ghost use Rattle.just_loader.specs.Sources.{text_at};
 ghost use Rattle.just_bench_syntax.specs.Answers.{answers};
 ghost use Rattle.just_bench_bundle.specs.Input.{IsReadOn};
@@ -10,13 +11,13 @@ ghost use Rattle.just_bench.specs.Entries.{entry_lines};
 ghost use Rattle.just_bench.specs.Ran.{IsUndone, Ran, plain_front};
 ghost use Rattle.just_bench.specs.Writing.{BeginsLine, GetsLine};
 ghost use Rattle.just_bench.specs.declared.program_error.ProgramError.{ProgramError};
-ghost use Rattle.justrun.specs.Answers.{Comes, HasNotRun, HasRun, IsFailure, IsRunDone, IsDoneOver, IsProgramFault, IsFaultOver};
+ghost use Rattle.justrun.specs.Answers.{Comes, HasNotRun, HasRun, IsFailure, IsRunDone, IsDoneOver, IsProgramFault, IsFaultOver, TellsUncompiled};
 
 use just_analyzer::layers::{Config, Error};
 use just_analyzer::{Compilation, Compiler, Sources, is_clean};
 use just_bench::{
-    PlainEvaluation, PlainSyntax, ProgramError, paths_like, read_sources, read_text, run_and_write,
-    tell, tell_usage,
+    PlainEvaluation, PlainSyntax, ProgramError, line_of, paths_like, read_sources, read_text,
+    run_and_write, tell, tell_usage,
 };
 use std::alloc::Global;
 use std::io;
@@ -45,6 +46,27 @@ fn miss<'src>(alloc: Global, sources: &Sources<'src>, root: &'src str) -> Progra
     match paths_like(alloc, sources, root) {
         Ok(like) => ProgramError::NoRoot { root, like },
         Err(_) => ProgramError::Memory,
+    }
+}
+
+// Tells why a root is not compiled, with the line on which stands what the error tells of, where the error has no place of its
+// own and there is memory to look for it.
+fn uncompiled<'src>(
+    alloc: Global,
+    sources: &Sources<'src>,
+    config: &Config,
+    root: &str,
+    error: Error<'src>,
+) -> ProgramError<'src>
+    requires { IsClean root.now }
+    ensures { TellsUncompiled (world_of sources.now config.now (answers []) root.now) error.entry result }
+{
+    match line_of(alloc, sources, config, root, &error) {
+        Ok(Some(line)) => ProgramError::Analyzer {
+            error,
+            line: Some(line),
+        },
+        Ok(None) | Err(_) => ProgramError::Analyzer { error, line: None },
     }
 }
 
@@ -92,7 +114,7 @@ fn run_sources<'src, W: Write>(
     let config = Config::new(alloc);
     match compile(alloc, sources, &config, root) {
         Ok(compilation) => run_compiled(alloc, &compilation, &config, words, output),
-        Err(error) => Err(ProgramError::Analyzer(error)),
+        Err(error) => Err(uncompiled(alloc, sources, &config, root, error)),
     }
 }
 
@@ -124,16 +146,15 @@ pub struct Exit {
     pub told: io::Result<()>,
 }
 
-/// Ends with an error, which is told.
-pub fn fail<E: Write>(alloc: Global, errors: &mut E, error: &ProgramError) -> Exit
+/// Ends with an error, which is told and dropped.
+pub fn fail<E: Write>(alloc: Global, errors: &mut E, error: ProgramError) -> Exit
     ensures status { result.status ≡ 1 }
     ensures told { OnOk result.told (GetsLine (E.contents errors.old) (E.contents errors.new)) }
     ensures begun { BeginsLine (E.contents errors.old) (E.contents errors.new) }
 {
-    Exit {
-        status: 1,
-        told: tell(alloc, errors, error),
-    }
+    let told = tell(alloc, errors, &error);
+    drop(error);
+    Exit { status: 1, told }
 }
 
 // Tells how the program is used.
@@ -171,7 +192,7 @@ fn run_text<W: Write, E: Write>(
             status: 0,
             told: Ok(()),
         },
-        Err(error) => fail(alloc, errors, &error),
+        Err(error) => fail(alloc, errors, error),
     }
 }
 
@@ -196,11 +217,11 @@ fn run_input<R: Read, W: Write, E: Write>(
     ensures begun { result.status ≡ 1 → BeginsLine (E.contents errors.old) (E.contents errors.new) }
 {
     if !is_clean(root) {
-        return fail(alloc, errors, &ProgramError::NotClean(root));
+        return fail(alloc, errors, ProgramError::NotClean(root));
     }
     match read_text(alloc, input) {
         Ok(text) => run_text(alloc, text.as_str(), root, words, output, errors),
-        Err(error) => fail(alloc, errors, &ProgramError::Input(error)),
+        Err(error) => fail(alloc, errors, ProgramError::Input(error)),
     }
 }
 

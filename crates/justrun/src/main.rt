@@ -18,10 +18,10 @@ fn run_words(rt: &HostRuntime, words: Option<&[&str]>) -> Exit {
     let alloc = rt.alloc();
     let mut errors = rt.stderr();
     let Ok(mut input) = BufReader::new(alloc, rt.stdin()) else {
-        return fail(alloc, &mut errors, &ProgramError::Memory);
+        return fail(alloc, &mut errors, ProgramError::Memory);
     };
     let Ok(mut output) = BufWriter::new(alloc, rt.stdout()) else {
-        return fail(alloc, &mut errors, &ProgramError::Memory);
+        return fail(alloc, &mut errors, ProgramError::Memory);
     };
     program(alloc, words, &mut input, &mut output, &mut errors)
 }
@@ -31,7 +31,7 @@ fn run_texts(rt: &HostRuntime, texts: &[String]) -> Exit {
     let mut words = Vec::new(rt.alloc());
     for text in texts {
         if words.push(text.as_str()).is_err() {
-            return fail(rt.alloc(), &mut rt.stderr(), &ProgramError::Memory);
+            return fail(rt.alloc(), &mut rt.stderr(), ProgramError::Memory);
         }
     }
     run_words(rt, Some(words.as_slice()))
@@ -42,7 +42,7 @@ fn run_arguments(rt: &HostRuntime, arguments: Args) -> Exit {
     let texts: Result<Vec<String>, AllocError> = arguments.skip(1).collect(rt.alloc());
     match texts {
         Ok(texts) => run_texts(rt, texts.as_slice()),
-        Err(_) => fail(rt.alloc(), &mut rt.stderr(), &ProgramError::Memory),
+        Err(_) => fail(rt.alloc(), &mut rt.stderr(), ProgramError::Memory),
     }
 }
 
@@ -57,7 +57,7 @@ fn run(rt: &HostRuntime) -> Exit {
         Ok(arguments) => run_arguments(rt, arguments),
         Err(error) => {
             if is_memory(&error) {
-                fail(rt.alloc(), &mut rt.stderr(), &ProgramError::Memory)
+                fail(rt.alloc(), &mut rt.stderr(), ProgramError::Memory)
             } else {
                 run_words(rt, None)
             }

@@ -96,27 +96,62 @@ fn program_answers_arguments_and_an_input(rt: HostRuntime) -> Result<(), Fail> {
     Ok(())
 }
 
+// Whether a run of `a` in these files ends with this fault, told on a line of the error output.
+fn tells(alloc: Global, input: &[u8], fault: &str) -> Result<bool, AllocError> {
+    let mut input = input;
+    let mut output = Vec::new(alloc);
+    let mut errors = Vec::new(alloc);
+    let exit = run(alloc, "/justfile a", &mut input, &mut output, &mut errors)?;
+    let line = errors.as_slice().strip_suffix(b"\n");
+    let told = line.and_then(|line| line.strip_prefix(b"justrun: "));
+    Ok(exit.status == 1 && told == Some(fault.as_bytes()))
+}
+
 #[test]
-fn paths_like_a_missing_root_are_told(rt: HostRuntime) -> Result<(), Fail> {
+fn message_tells_where_to_look(rt: HostRuntime) -> Result<(), Fail> {
     let alloc = rt.alloc();
-    let cases = [
-        (
-            b"--- /Justfile\n--- /justfile \n".as_slice(),
-            "; like it: `/Justfile`, `/justfile `",
-        ),
-        (b"--- /d/justfile\n".as_slice(), ""),
-    ];
-    for (input, like) in cases {
-        let mut input = input;
-        let mut output = Vec::new(alloc);
-        let mut errors = Vec::new(alloc);
-        let exit = run(alloc, "/justfile a", &mut input, &mut output, &mut errors)?;
-        assert_eq!(rt; exit.status, 1);
-        let line = format!(in alloc;
-            "justrun: Load: Could not find the root `/justfile` among the files{like}\n"
-        )?;
-        assert_eq!(rt; errors.as_slice(), line.as_bytes());
-    }
+    assert!(rt;
+        tells(
+            alloc,
+            b"--- /Justfile\n--- /justfile \n",
+            "Load: Could not find the root `/justfile` among the files; like it: `/Justfile`, `/justfile `",
+        )?
+    );
+    assert!(rt;
+        tells(
+            alloc,
+            b"--- /d/justfile\n",
+            "Load: Could not find the root `/justfile` among the files",
+        )?
+    );
+    assert!(rt;
+        tells(
+            alloc,
+            b"--- /justfile\nimport 'b'\n--- /b\na:\n\nimport './justfile'\n",
+            "CircularImport: File `/b` leads back to itself: it imports `/justfile`, or has it as the file of a module; see line 3 of `/b`",
+        )?
+    );
+    assert!(rt;
+        tells(
+            alloc,
+            b"--- /justfile\nmod m '~/m'\n",
+            "Homedir: The path of an import or of a module begins with `~/`, and no home folder is known; see line 1 of `/justfile`",
+        )?
+    );
+    assert!(rt;
+        tells(
+            alloc,
+            b"--- /justfile\nmod m\n--- /m.just\na:\n\nmod m\n",
+            "CircularImport: File `/m.just` leads back to itself: it imports `/m.just`, or has it as the file of a module; see line 3 of `/m.just`",
+        )?
+    );
+    assert!(rt;
+        tells(
+            alloc,
+            b"--- /a\nimport '~/x'\n--- /justfile\nimport 'z'\n--- /z\n\nimport? '~/x'\n",
+            "Homedir: The path of an import or of a module begins with `~/`, and no home folder is known; see line 2 of `/z`",
+        )?
+    );
     Ok(())
 }
 

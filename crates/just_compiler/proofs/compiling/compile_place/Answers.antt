@@ -11,8 +11,8 @@ use Rattle.just_module_contents.specs.Contents.{Contents, texts_of_named}
 use Rattle.just_module_contents.specs.Definitions.{contents_in}
 use Rattle.just_module_headers.specs.Files.{asts_in}
 use Rattle.just_module_contents.specs.Groups.{BreaksContents}
-use Rattle.just_compiler.specs.Checked.{no_links}
-use Rattle.just_compiler.specs.Noted.{notes_of_place}
+use Rattle.just_module_checks.specs.Checked.{no_links}
+use Rattle.just_module_assembly.specs.Noted.{notes_of_place}
 use Rattle.just_compiler.specs.Parts.{TellsChecked, around_by}
 use Rattle.just_compiler.specs.Steps.{BreaksOver, BreaksPlace, made_in}
 use Rattle.just_module_headers.specs.OfPlaces.{contents_of_place}

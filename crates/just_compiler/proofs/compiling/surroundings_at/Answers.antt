@@ -7,7 +7,7 @@ use Rattle.just_parts.specs.Asts.{AstKey}
 use Rattle.just_module_headers.specs.Files.{asts_in, keys_in}
 use Rattle.just_module_headers.proofs.Joining.{row_lent}
 use Rattle.just_compiled.specs.Labelled.{slot}
-use Rattle.just_compiler.specs.Noted.{notes_from}
+use Rattle.just_module_assembly.specs.Noted.{notes_from}
 use Rattle.just_compiler.proofs.compiling.surroundings_at.Goals as goal
 
 pub take_inner-requires-clause-inside : goal.take_inner-requires-clause-inside

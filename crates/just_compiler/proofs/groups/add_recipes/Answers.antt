@@ -12,7 +12,7 @@ use Rattle.just_module_contents.specs.Kept.{kept_recipes}
 use Rattle.just_module_contents.specs.Named.{recipes_by}
 use Rattle.just_module_variables.specs.Constants.{evaluated_in}
 use Rattle.just_parts.specs.Layers.{given_by, layers_at}
-use Rattle.just_module_recipes.specs.Aliased.{Targets, UnknownTargets, aliases_of, targets}
+use Rattle.just_module_aliases.specs.Aliased.{Targets, UnknownTargets, aliases_of, targets}
 use Rattle.just_module_recipes.specs.Broken.{BreaksRecipes, in_aliases}
 use Rattle.just_module_recipes.specs.Links.{of_defaults, of_targets}
 use Rattle.just_compiler.proofs.groups.add_recipes.Goals as goal

@@ -1,7 +1,7 @@
 use Rattle.std.proofs.Common.{ap, subst, sym}
 use Rattle.std.proofs.lemmas.Result.{IfErr-weaker, IfOk-weaker}
 use Rattle.just_module_contents.specs.Recipes.{lent}
-use Rattle.just_recipe_resolver.specs.Basis.{Basis, IsRecipeCovered}
+use Rattle.just_recipe_resolution.specs.Basis.{Basis, IsRecipeCovered}
 use Rattle.just_recipe_resolver.proofs.Along.{GivenRightly, OneKept, OneMade, OneTold, along_basis}
 use Rattle.just_recipe_resolver.proofs.unresolved_recipe.resolve.Goals as goal
 

@@ -1,6 +1,6 @@
 use Rattle.std.proofs.Common.{◌∙◌, ap}
 use Rattle.just_module_contents.specs.Recipes.{lent}
-use Rattle.just_recipe_resolver.specs.Basis.{basis_of, completion_on}
+use Rattle.just_recipe_resolution.specs.Basis.{basis_of, completion_on}
 use Rattle.just_recipe_resolver.specs.Resolved.{links_to}
 use Rattle.just_recipe_resolver.proofs.Placed.{placed_so}
 use Rattle.just_recipe_resolver.proofs.unresolved_recipe.resolve_over.Goals as goal

@@ -25,4 +25,4 @@ returns-in-Ok-clause-fault g c =
     c.run_compiled.ensures.fault
 
 pub returns-clause-fault : goal.returns-clause-fault
-returns-clause-fault g c = uncompiled c.new-config.result c.in-Err.error c.new-config.ensures c.in-Err.ensures refl
+returns-clause-fault g c = uncompiled c.new-config.result c.in-Err.error c.uncompiled.result c.new-config.ensures c.in-Err.ensures c.uncompiled.ensures refl

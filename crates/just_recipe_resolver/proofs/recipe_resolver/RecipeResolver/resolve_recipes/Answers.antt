@@ -18,7 +18,7 @@ use Rattle.just_module_recipes.specs.Links.{BreaksLinks, Disables, Stands, aroun
 use Rattle.just_names.specs.Index.{AreDifferent}
 use Rattle.just_recipe.specs.declared.dependency.UnresolvedDependency.{UnresolvedDependency}
 use Rattle.just_recipe.specs.declared.recipe.Recipe.{Recipe}
-use Rattle.just_recipe_resolver.specs.Basis.{AreRecipesCovered, Basis, IsRecipeCovered, basis_by, basis_of}
+use Rattle.just_recipe_resolution.specs.Basis.{AreRecipesCovered, Basis, IsRecipeCovered, basis_by, basis_of}
 use Rattle.just_recipe_resolver.proofs.Along.{Added, OwnKept, Told, along}
 use Rattle.just_recipe_resolver.proofs.recipe_resolver.RecipeResolver.resolve_recipes.Goals as goal
 

@@ -1,0 +1,19 @@
+-- What an item leads to, where a search is told a path.
+use Rattle.std.proofs.Common.{◌≡◌, ℕ, List, sym, ap}
+use Rattle.just_bench_bundle.specs.Places.{lead_of}
+use Rattle.just_bench_bundle.specs.declared.leads.Lead.TheVariants as lead
+use Rattle.just_errors.specs.Causes.{NoFile, NoHome, NoImport, NoModule, SeveralFiles, LeadsBack, NoVariables, Broken, NoNumber}
+use Rattle.just_loader.specs.Links.{Link, Nowhere, To, Fault}
+
+pub led_to : (to : Link) (path : List ℕ) → lead.To path ≡ lead_of to → to ≡ To path
+led_to Nowhere path is = cc
+led_to (To other) path is = let same : path ≡ other = cc in ap To (sym same)
+led_to (Fault NoHome) path is = cc
+led_to (Fault (NoFile file)) path is = cc
+led_to (Fault (NoImport place)) path is = cc
+led_to (Fault (NoModule name)) path is = cc
+led_to (Fault (SeveralFiles name found)) path is = cc
+led_to (Fault (LeadsBack current next)) path is = cc
+led_to (Fault (NoVariables overrides)) path is = cc
+led_to (Fault (Broken place kind)) path is = cc
+led_to (Fault NoNumber) path is = cc

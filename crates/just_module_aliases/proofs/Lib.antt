@@ -1,0 +1,3 @@
+pub mod Aliasing
+pub mod Defaults
+pub mod Later

@@ -1,0 +1,2 @@
+pub mod Docs
+pub mod GroupGrounds
