@@ -7,6 +7,7 @@ pub use Rattle.just_parts.specs.Evaluator.{count_fault_of}
 pub use Rattle.just_run_layers.specs.Host.{Answer, KeepsPromises}
 pub use Rattle.just_parts.specs.Layers.{override_at}
 pub use Rattle.just_run_layers.specs.Interactions.{log_of}
+pub use Rattle.just_run_layers.specs.LineTexts.{AgreesWith}
 pub use Rattle.just_loader.specs.ModuleFile.{module_files}
 pub use Rattle.just_loader.specs.Reached.{world_of}
 pub use Rattle.just_justfile.specs.Closed.{AreClosed, IsClosedModule, IsHeld, IsRooted, is_ordered}
@@ -17,6 +18,7 @@ pub use Rattle.just_invoke.specs.Outcome.{RunsAsExpected, IsOutcome}
 pub use Rattle.just_invoke.specs.Split.{HasWordsFault, IsSplit, invoked_of}
 pub use Rattle.just_justfile.specs.Running.{CanRun, HoldsOverridden, TellsBareLines}
 pub use Rattle.just_justfile.specs.Walks.{AreOrdered, AreModulesOrdered}
+pub use Rattle.just_scopes.specs.Opening.{front_of, handed_of}
 pub use Rattle.just_overrides.specs.Inserted.{AreAsBefore}
 pub use Rattle.just_compiler.specs.Analyzed.{Analyzes, TellsAnalyzed}
 pub use Rattle.just_compiler.specs.Compiled.{Compiles}

@@ -321,20 +321,27 @@ fn add_items<'src>(
     items: &[Item<'src>],
     answer: &mut String,
 ) -> Result<(), AllocError> {
-    let mut definitions = definitions_of(alloc, items)?;
+    let Definitions {
+        mut assignments,
+        mut functions,
+    } = definitions_of(alloc, items)?;
     let resolved = VariableResolver::resolve_assignments(
         alloc,
-        &mut definitions.assignments,
-        &mut definitions.functions,
+        &mut assignments,
+        &mut functions,
         &PlainSyntax::new(),
     );
     let Some((numbers, order)) = unless_fault(resolved, answer)? else {
         return Ok(());
     };
     if call == "resolve_assignments" {
-        add_order(&definitions.assignments, &numbers, order.as_slice(), answer)?;
-        return add_tables(&definitions.assignments, &definitions.functions, answer);
+        add_order(&assignments, &numbers, order.as_slice(), answer)?;
+        return add_tables(&assignments, &functions, answer);
     }
+    let definitions = Definitions {
+        assignments,
+        functions,
+    };
     add_resolver(
         alloc,
         call,

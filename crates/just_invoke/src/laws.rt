@@ -52,5 +52,6 @@ pub fn holds_recipes()
 
 /// Answers that are promised to some questions stay so while promises are kept, as they are in a run.
 pub fn stays_steady()
-    ensures { (old new : _) (f : Question → Answer) (asked : List Question) → KeepsPromises old new → ArePromised old f asked → ArePromised new f asked }
+    ensures { (old new : _) (f : Question → Answer) (asked : List Question) →
+        KeepsPromises old new → ArePromised old f asked → ArePromised new f asked }
 {}

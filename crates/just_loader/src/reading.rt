@@ -139,7 +139,8 @@ pub(crate) fn read_text<'src, S: Syntax>(
     source: &Source<'src>,
     texts: &mut ReadTexts<'src>,
 ) -> Result<Ast<'src>, Error<'src>>
-    requires read { (ast : Ast) → slice_get texts.old.asts.items place ≡ Some (Some ast) → IsRead (S.answers syntax.now) file.now.relative file.now.text ast }
+    requires read { (ast : Ast) → slice_get texts.old.asts.items place ≡ Some (Some ast) →
+        IsRead (S.answers syntax.now) file.now.relative file.now.text ast }
     requires few { texts.old.numerator ≤ 2 ^ 64 }
     ensures read { IfOk result (IsReadBy (S.answers syntax.now) file.now.relative file.now.text source.now) }
     ensures takes { IfOk result (λ ast. TakesText place (takes (S.answers syntax.now) file.now) texts.old texts.new (numbers ast.items)) }
