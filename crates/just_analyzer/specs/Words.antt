@@ -18,7 +18,7 @@ pub use Rattle.just_invoke.specs.Outcome.{RunsAsExpected, IsOutcome}
 pub use Rattle.just_invoke.specs.Split.{HasWordsFault, IsSplit, invoked_of}
 pub use Rattle.just_justfile.specs.Running.{CanRun, HoldsOverridden, TellsBareLines}
 pub use Rattle.just_justfile.specs.Walks.{AreOrdered, AreModulesOrdered}
-pub use Rattle.just_scopes.specs.Opening.{front_of, handed_of}
+pub use Rattle.just_scopes.specs.Opening.{handed_of, setup_of}
 pub use Rattle.just_overrides.specs.Inserted.{AreAsBefore}
 pub use Rattle.just_compiler.specs.Analyzed.{Analyzes, TellsAnalyzed}
 pub use Rattle.just_compiler.specs.Compiled.{Compiles}

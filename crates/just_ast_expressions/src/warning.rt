@@ -1,6 +1,6 @@
 use just_data::{Exact, Text};
 
-/// What a front is told of a text that is no fault.
+/// What the caller is told of a text that is no fault.
 #[derive(Clone, PartialEq, Eq, Drop)]
 pub struct Warning {
     /// What is told.

@@ -19,7 +19,7 @@ pub struct Ast<'src, I> {
     pub unstable_features: Sequence<UnstableFeature<'src>>,
     /// Where it needs lists, in the order of the text.
     pub list_features: Sequence<ListUse<'src>>,
-    /// What a front is told of it.
+    /// What the caller is told of it.
     pub warnings: Sequence<Warning>,
 }
 

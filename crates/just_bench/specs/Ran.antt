@@ -16,7 +16,7 @@ use Rattle.just_run_layers.specs.Evaluation.{ScopeRequest}
 use Rattle.just_run_layers.specs.Interactions.{log_of}
 use Rattle.just_invoke.specs.Evaluation.{RunsRecipes}
 use Rattle.just_invoke.specs.Outcome.{IsOutcome}
-use Rattle.just_scopes.specs.Opening.{Front, front_of}
+use Rattle.just_scopes.specs.Opening.{Setup, setup_of}
 use Rattle.just_invoke.specs.Split.{Counts}
 use Rattle.just_bench_evaluation.specs.Answered.{plain_answer}
 use Rattle.just_bench_syntax.specs.Answers.{answers}
@@ -30,8 +30,8 @@ use Rattle.just_bench.specs.declared.program_error.ProgramError.{ProgramError}
 use Rattle.just_bench.specs.declared.program_error.ProgramError.TheVariants as program
 
 -- what a run of the bench takes beside modules and words: the plain grammar, in which all settings may stand together
-abbrev pub plain_front : Config → HashMap Number Text (BuildHasherDefault FoldHasher) → Front
-plain_front config overrides = front_of (answers []) config overrides
+abbrev pub plain_setup : Config → HashMap Number Text (BuildHasherDefault FoldHasher) → Setup
+plain_setup config overrides = setup_of (answers []) config overrides
 
 -- what the plain evaluation says of counts
 abbrev pub plain_counts : Counts
@@ -39,16 +39,16 @@ plain_counts = count_fault_of evaluator
 
 -- Words are run over a root by a plain evaluation that was asked nothing, which promises its answers, and a recorder, which promises what it does
 -- by its script: where the configuration asks that recipes run, the recorder kept these calls, and keeps those; the evaluation keeps these questions for variables.
-abbrev pub IsPlainOutcome : Justfile → List (Recipe Dependency) → Config → Front → List Text → Script → List Entry → List Entry → Result Report Error → Type 0
-IsPlainOutcome root recipes config front words script old new result =
+abbrev pub IsPlainOutcome : Justfile → List (Recipe Dependency) → Config → Setup → List Text → Script → List Entry → List Entry → Result Report Error → Type 0
+IsPlainOutcome root recipes config setup words script old new result =
     RunsRecipes config → (requests : List ScopeRequest) ×
-    IsOutcome plain_counts root recipes words config front (λ inquiry. Some (plain_answer inquiry)) (script_promises script) (log_of old []) (log_of new requests) result
+    IsOutcome plain_counts root recipes words config setup (λ inquiry. Some (plain_answer inquiry)) (script_promises script) (log_of old []) (log_of new requests) result
 
 -- What a recorder without a script, which was asked nothing, is asked by a run, and what the run comes to.
-pub record Ran (root : Justfile) (recipes : List (Recipe Dependency)) (config : Config) (front : Front) (words : List Text) : Type 0 where
+pub record Ran (root : Justfile) (recipes : List (Recipe Dependency)) (config : Config) (setup : Setup) (words : List Text) : Type 0 where
   pub entries : List Entry
   pub result : Result Report Error
-  pub outcome : IsPlainOutcome root recipes config front words unscripted [] entries result
+  pub outcome : IsPlainOutcome root recipes config setup words unscripted [] entries result
 
 -- why a run is not told to be done: its error; or it is done, and its lines could not be written, or there was no memory for them
 pub data IsRunFault (result : Result Report Error) : ProgramError → Type 0 where
@@ -57,7 +57,7 @@ pub data IsRunFault (result : Result Report Error) : ProgramError → Type 0 whe
   refused : IsOk result → IsRunFault result program.Memory
 
 -- A run is not told to be done, for this reason, and an output got a beginning of its lines.
-pub record IsUndone (root : Justfile) (recipes : List (Recipe Dependency)) (config : Config) (front : Front) (words : List Text) (old new : Option (List ℕ)) (e : ProgramError) : Type 0 where
-  pub run : Ran root recipes config front words
+pub record IsUndone (root : Justfile) (recipes : List (Recipe Dependency)) (config : Config) (setup : Setup) (words : List Text) (old new : Option (List ℕ)) (e : ProgramError) : Type 0 where
+  pub run : Ran root recipes config setup words
   pub told : IsRunFault run.result e
   pub begun : GetsBeginning old new (entry_lines run.entries)

@@ -5,7 +5,7 @@ ghost use Rattle.just_justfile.specs.Running.{CanRun, HoldsOverridden};
 ghost use Rattle.just_names.specs.Texts.{texts};
 ghost use Rattle.just_bench_syntax.specs.Answers.{answers};
 ghost use Rattle.just_bench.specs.Entries.{entry_lines};
-ghost use Rattle.just_bench.specs.Ran.{IsUndone, Ran, plain_front};
+ghost use Rattle.just_bench.specs.Ran.{IsUndone, Ran, plain_setup};
 
 use crate::entries::write_entries;
 use crate::program_error::ProgramError;
@@ -31,9 +31,9 @@ pub fn run_and_write<'src, W: Write>(
 ) -> Result<(), ProgramError<'src>>
     requires can_run { CanRun (answers []) root.now recipes.now }
     requires overridden { HoldsOverridden root.now overrides.now }
-    ensures done { let ran = Ran root.now recipes.now config.now (plain_front config.now overrides.now) (texts words.now) in
+    ensures done { let ran = Ran root.now recipes.now config.now (plain_setup config.now overrides.now) (texts words.now) in
         OnOk result ((r : ran) × IsOk r.result × Appends (W.contents output.old) (W.contents output.new) (entry_lines r.entries)) }
-    ensures fault { let front = plain_front config.now overrides.now in
+    ensures fault { let front = plain_setup config.now overrides.now in
         let undone = IsUndone root.now recipes.now config.now front (texts words.now) in
         IfErr result (undone (W.contents output.old) (W.contents output.new)) }
 {

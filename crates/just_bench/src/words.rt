@@ -3,7 +3,7 @@ ghost use Rattle.std.specs.Prelude.{[]};
 ghost use Rattle.just_justfile.specs.Running.{CanRun, HoldsOverridden};
 ghost use Rattle.just_names.specs.Texts.{texts};
 ghost use Rattle.just_bench_syntax.specs.Answers.{answers};
-ghost use Rattle.just_bench.specs.Ran.{IsPlainOutcome, plain_front};
+ghost use Rattle.just_bench.specs.Ran.{IsPlainOutcome, plain_setup};
 
 use crate::laws::layers_agree_on_lines;
 use crate::recorder::Recorder;
@@ -29,7 +29,7 @@ pub fn run_words<'src>(
 ) -> Result<Report, Error<'src>>
     requires can_run { CanRun (answers []) root.now recipes.now }
     requires overridden { HoldsOverridden root.now overrides.now }
-    ensures { let front = plain_front config.now overrides.now in
+    ensures { let front = plain_setup config.now overrides.now in
         let outcome = IsPlainOutcome root.now recipes.now config.now front (texts words.now) host.old.script in
         outcome host.old.entries host.new.entries result }
 {

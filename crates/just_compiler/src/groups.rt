@@ -25,7 +25,7 @@ use just_module_aliases::{default_of, resolve_aliases};
 use just_module_assembly::{OwnRecipes, Surroundings};
 use just_module_bodies::check_bodies;
 use just_module_checks::Checked;
-use just_module_contents::kept::keep_recipes;
+use just_module_contents::precedence::keep_recipes;
 use just_module_recipes::Linked;
 use just_parts::layers::{Ast, ConstantEvaluation, Error, Given, Syntax};
 use just_paths::Modulepath;

@@ -1,6 +1,6 @@
 pub mod Accounted
 pub mod Asked
-pub mod CourseLemmas
+pub mod RunStates
 pub mod Covered
 pub mod Even
 pub mod FirstAskings

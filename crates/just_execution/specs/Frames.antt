@@ -11,7 +11,7 @@ use Rattle.just_run_layers.specs.Evaluation.{Inquiry}
 use Rattle.just_run_layers.specs.declared.held.Held.{Held}
 use Rattle.just_run_layers.specs.Host.{Answer}
 use Rattle.just_run_layers.specs.Interactions.{Log, Question, Interaction, Return, and_then, HasTrace, both}
-use Rattle.just_execution.specs.declared.course.Course.{Course}
+use Rattle.just_execution.specs.declared.run_state.RunState.{RunState}
 use Rattle.just_execution.specs.declared.frame.Frame.{Frame}
 use Rattle.just_execution.specs.declared.frame.Frame.TheVariants.{Call, Block, Back}
 use Rattle.just_execution.specs.declared.frame.OpenTable.{OpenTable}
@@ -78,27 +78,27 @@ weight most [] = 0
 weight most (x ∷ xs) = frame_weight most x + weight most xs
 
 -- where a run under way stands
-abbrev pub state_of : Course → State
-state_of course = under course.current course.calls.items
+abbrev pub state_of : RunState → State
+state_of run = under run.current run.calls.items
 
 -- each task that is left can be called, what it holds serves it, and each table has its counter
-pub record IsSound (P : Task → Type 0) (Q : Task → Held → Type 0) (course : Course) : Type 0 where
-  pub frames : AreSoundFrames P Q (length course.calls.items) course.frames.items
-  pub number : course.current.number < length course.calls.items
+pub record IsSound (P : Task → Type 0) (Q : Task → Held → Type 0) (run : RunState) : Type 0 where
+  pub frames : AreSoundFrames P Q (length run.calls.items) run.frames.items
+  pub number : run.current.number < length run.calls.items
 
 -- so of a run in modules
-abbrev pub IsSoundIn : SyntaxAnswers → Modules → List (Recipe Dependency) → Course → Type 0
-IsSoundIn answers modules recipes course = IsSound (IsCallable answers modules recipes) (IsServed answers modules recipes) course
+abbrev pub IsSoundIn : SyntaxAnswers → Modules → List (Recipe Dependency) → RunState → Type 0
+IsSoundIn answers modules recipes run = IsSound (IsCallable answers modules recipes) (IsServed answers modules recipes) run
 
 abbrev pub IsSoundFrameIn : SyntaxAnswers → Modules → List (Recipe Dependency) → ℕ → Frame → Type 0
 IsSoundFrameIn answers modules recipes counters frame = IsSoundFrame (IsCallable answers modules recipes) (IsServed answers modules recipes) counters frame
 
 -- what is left of it; and with one more frame
-abbrev pub continuation_of : TaskInteractions → Course → Interaction State
-continuation_of of_task course = continuation_from of_task course.frames.items (state_of course)
+abbrev pub continuation_of : TaskInteractions → RunState → Interaction State
+continuation_of of_task run = continuation_from of_task run.frames.items (state_of run)
 
-abbrev pub continuation_with : TaskInteractions → Frame → Course → Interaction State
-continuation_with of_task frame course = continuation_from of_task (course.frames.items ++ frame ∷ []) (state_of course)
+abbrev pub continuation_with : TaskInteractions → Frame → RunState → Interaction State
+continuation_with of_task frame run = continuation_from of_task (run.frames.items ++ frame ∷ []) (state_of run)
 
 -- steps were taken, from the first to the second where it succeeds
 abbrev pub Simulates : {A U : Type 0} → (Question → Option Answer) → Interaction A → Log → Interaction A → Log → Result U Halt → Type 0
@@ -111,19 +111,19 @@ replace_value x (Ok u) = Ok x
 replace_value x (Err e) = Err e
 
 -- a frame of a run in a scene leads from what was left to what is left
-abbrev pub SimulatesFrame : (Inquiry → Option Answer) → (Entry → Option Answer) → Scene → Frame → Course → Log → Course → Log → Result (Unit {0}) Halt → Type 0
+abbrev pub SimulatesFrame : (Inquiry → Option Answer) → (Entry → Option Answer) → Scene → Frame → RunState → Log → RunState → Log → Result (Unit {0}) Halt → Type 0
 SimulatesFrame evaluator host scene frame old kept new keeps result =
     Simulates (both evaluator host) (continuation_with (interactions_of scene) frame old) kept (continuation_of (interactions_of scene) new) keeps result
 
 -- the call of a task; and its block, with what it holds
-abbrev pub SimulatesCall : (Inquiry → Option Answer) → (Entry → Option Answer) → Scene → Task → Course → Log → Course → Log → Result (Unit {0}) Halt → Type 0
+abbrev pub SimulatesCall : (Inquiry → Option Answer) → (Entry → Option Answer) → Scene → Task → RunState → Log → RunState → Log → Result (Unit {0}) Halt → Type 0
 SimulatesCall evaluator host scene task old kept new keeps result = SimulatesFrame evaluator host scene (Call task) old kept new keeps result
 
-abbrev pub SimulatesBlock : (Inquiry → Option Answer) → (Entry → Option Answer) → Scene → Task → Held → Course → Log → Course → Log → Result (Unit {0}) Halt → Type 0
+abbrev pub SimulatesBlock : (Inquiry → Option Answer) → (Entry → Option Answer) → Scene → Task → Held → RunState → Log → RunState → Log → Result (Unit {0}) Halt → Type 0
 SimulatesBlock evaluator host scene task held old kept new keeps result = SimulatesFrame evaluator host scene (Block task held) old kept new keeps result
 
 -- all that was left was taken
-abbrev pub SimulatesRest : (Inquiry → Option Answer) → (Entry → Option Answer) → Scene → Course → Log → Course → Log → Result (Unit {0}) Halt → Type 0
+abbrev pub SimulatesRest : (Inquiry → Option Answer) → (Entry → Option Answer) → Scene → RunState → Log → RunState → Log → Result (Unit {0}) Halt → Type 0
 SimulatesRest evaluator host scene old kept new keeps result =
     HasTrace (both evaluator host) (continuation_of (interactions_of scene) old) kept keeps (replace_value (state_of new) result)
 
@@ -132,7 +132,7 @@ abbrev pub IsLighter : List Frame → List Frame → Frame → Type 0
 IsLighter new old frame = weight (2 ^ 64) new < weight (2 ^ 64) (old ++ frame ∷ [])
 
 -- tasks are called next under a table of their own, where there are any
-pub record IsOpened (old : Course) (tasks : List Task) (new : Course) : Type 0 where
+pub record IsOpened (old : RunState) (tasks : List Task) (new : RunState) : Type 0 where
   pub left : (of_task : TaskInteractions) → continuation_of of_task new ≡
       and_then (fresh_steps (walk_at of_task) tasks old.calls.items) (λ calls. continuation_from of_task old.frames.items (with_calls (state_of old) calls))
   pub sound : (answers : SyntaxAnswers) (modules : Modules) (recipes : List (Recipe Dependency)) → All (IsCallable answers modules recipes) tasks →

@@ -12,10 +12,10 @@ ghost use Rattle.just_recipe.specs.Recipes.{IsOrdered, IsResolved};
 ghost use Rattle.just_execution.specs.Reports.{TasksRunAsExpected, IsRun, HasRunTrace};
 ghost use Rattle.just_execution.specs.Scene.{running, scene_in};
 
-use crate::course::{Course, count_call, push_calls};
 use crate::frame::Frame;
 use crate::questions::{Preparation, ask, follow};
 use crate::recipes::recipe_at;
+use crate::run_state::{RunState, count_call, push_calls};
 use crate::scopes::{Scopes, module_of};
 use crate::task::Task;
 use just_parts::layers::{Halt, Syntax};
@@ -75,7 +75,7 @@ fn call_task<'src, S: Syntax, E: Evaluation, H: Host>(
     scopes: &Scopes<'_, 'src, S>,
     evaluation: &mut E,
     host: &mut H,
-    run: &mut Course<'src>,
+    run: &mut RunState<'src>,
     task: Task,
 ) -> Result<(), Halt<'src>>
     requires ordered { IsOrdered recipes.now }
@@ -109,7 +109,7 @@ fn run_block<'src, S: Syntax, E: Evaluation, H: Host>(
     scopes: &Scopes<'_, 'src, S>,
     evaluation: &mut E,
     host: &mut H,
-    run: &mut Course<'src>,
+    run: &mut RunState<'src>,
     task: Task,
     held: Held<'src>,
 ) -> Result<(), Halt<'src>>
@@ -142,7 +142,7 @@ fn take<'src, S: Syntax, E: Evaluation, H: Host>(
     scopes: &Scopes<'_, 'src, S>,
     evaluation: &mut E,
     host: &mut H,
-    run: &mut Course<'src>,
+    run: &mut RunState<'src>,
     frame: Frame<'src>,
 ) -> Result<(), Halt<'src>>
     requires same { AgreesWith E.sigils E.continues (S.answers scopes.now.syntax.now) }
@@ -178,7 +178,7 @@ fn finish<'src, S: Syntax, E: Evaluation, H: Host>(
     scopes: &Scopes<'_, 'src, S>,
     evaluation: &mut E,
     host: &mut H,
-    run: &mut Course<'src>,
+    run: &mut RunState<'src>,
 ) -> Result<(), Halt<'src>>
     requires same { AgreesWith E.sigils E.continues (S.answers scopes.now.syntax.now) }
     requires ordered { IsOrdered recipes.now }
@@ -223,12 +223,10 @@ fn start<'src, S: Syntax, E: Evaluation, H: Host>(
             calls: Vec::new(alloc),
         });
     }
-    let mut course = Course::new(alloc)?;
-    push_calls(&mut course.frames, tasks)?;
-    finish(alloc, recipes, scopes, evaluation, host, &mut course)?;
-    Ok(Report {
-        calls: course.calls,
-    })
+    let mut run = RunState::new(alloc)?;
+    push_calls(&mut run.frames, tasks)?;
+    finish(alloc, recipes, scopes, evaluation, host, &mut run)?;
+    Ok(Report { calls: run.calls })
 }
 
 /// Runs tasks in turn under one once table: each pair once, after its priors, and its subsequents after it under a table

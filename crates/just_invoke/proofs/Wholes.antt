@@ -17,7 +17,7 @@ use Rattle.just_run_layers.specs.Evaluation.{Inquiry}
 use Rattle.just_run_layers.specs.Host.{Answer, KeepsPromises}
 use Rattle.just_run_layers.specs.Interactions.{Ask, Fail, IsTraceOrPrefix, Return, ArePromised, Log, Question, Interaction, HasTrace, logged, and_then, both, executed_in, result_under, trace_under}
 use Rattle.just_run_layers.specs.declared.host.Entry.{Entry}
-use Rattle.just_scopes.specs.Opening.{Front, Opened, all_opened, scene_of}
+use Rattle.just_scopes.specs.Opening.{Opened, Setup, all_opened, scene_of}
 use Rattle.just_invoke.specs.Results.{RunsInScene, RunsOpen, RunEndsAs, out, ran, shut}
 use Rattle.just_invoke.specs.Whole.{HasOpened, IsWholeRun}
 
@@ -63,15 +63,15 @@ late-memory p (Ask q g) old new x (inl (n, h)) = inl (n, refl)
 late-memory p (Ask q g) old new x (inr (a, l, t)) = inr (a, l, late-memory p (g a) (logged q old) new x t)
 
 -- what the run of tasks comes to is as is expected of the whole
-pub is-whole : (e : Inquiry → Option Answer) (h : Entry → Option Answer) (front : Front) (root : Justfile) (recipes : List (Recipe Dependency)) (ts : List Task) (old new : Log) (result : Result Report Error) → RunEndsAs e h front root recipes ts old new result →
-    (ended : Result Report Halt) × (result ≡ come_to ended) × IsWholeRun e h front root recipes ts old new ended
-is-whole e h front root recipes ts old new result (out is same) = (Err halt.Memory, is, λ sets needs ps order f steady even. out-follows _ _ old new (Err halt.Memory) refl same)
-is-whole e h front root recipes ts old new result (shut d is opens executed) =
-    (Err d, is, λ sets needs ps order f steady even. whole-stops (both e h) f (λ opened. expected_steps (scene_of front recipes opened) f ts) (all_opened sets front.handed ps) old new d (opens sets needs ps order) steady)
-is-whole e h front root recipes ts old new result (ran opened mid ended is has run runs) = (
+pub is-whole : (e : Inquiry → Option Answer) (h : Entry → Option Answer) (setup : Setup) (root : Justfile) (recipes : List (Recipe Dependency)) (ts : List Task) (old new : Log) (result : Result Report Error) → RunEndsAs e h setup root recipes ts old new result →
+    (ended : Result Report Halt) × (result ≡ come_to ended) × IsWholeRun e h setup root recipes ts old new ended
+is-whole e h setup root recipes ts old new result (out is same) = (Err halt.Memory, is, λ sets needs ps order f steady even. out-follows _ _ old new (Err halt.Memory) refl same)
+is-whole e h setup root recipes ts old new result (shut d is opens executed) =
+    (Err d, is, λ sets needs ps order f steady even. whole-stops (both e h) f (λ opened. expected_steps (scene_of setup recipes opened) f ts) (all_opened sets setup.handed ps) old new d (opens sets needs ps order) steady)
+is-whole e h setup root recipes ts old new result (ran opened mid ended is has run runs) = (
   ended,
   is,
-  λ sets needs ps order f steady even. whole-follows (both e h) f (λ opened. expected_steps (scene_of front recipes opened) f ts) (all_opened sets front.handed ps) old mid new opened (without ended)
+  λ sets needs ps order f steady even. whole-follows (both e h) f (λ opened. expected_steps (scene_of setup recipes opened) f ts) (all_opened sets setup.handed ps) old mid new opened (without ended)
       (has.steps sets needs ps order) steady (λ comes steady. runs.expected f steady (even opened comes)),
 )
 
@@ -88,10 +88,10 @@ runs-before e d h k more host scene ts old new ended runs = record {
 }
 
 -- the modules were opened, and then the tasks ran in them, or there was no memory to
-pub comes-to : (e d : Inquiry → Option Answer) (h k : Entry → Option Answer) → KeepsPromises e d → KeepsPromises h k → (front : Front) (root : Justfile) (recipes : List (Recipe Dependency)) (ts : List Task) (opened : List Opened) (old mid new : Log) (ended : Result Report Halt) →
-    HasOpened e h front root recipes ts old mid opened → RunsOpen d k front recipes opened ts mid new ended → RunEndsAs e h front root recipes ts old new (come_to ended)
-comes-to e d h k more host front root recipes ts opened old mid new ended has (inl (is, same)) =
+pub comes-to : (e d : Inquiry → Option Answer) (h k : Entry → Option Answer) → KeepsPromises e d → KeepsPromises h k → (setup : Setup) (root : Justfile) (recipes : List (Recipe Dependency)) (ts : List Task) (opened : List Opened) (old mid new : Log) (ended : Result Report Halt) →
+    HasOpened e h setup root recipes ts old mid opened → RunsOpen d k setup recipes opened ts mid new ended → RunEndsAs e h setup root recipes ts old new (come_to ended)
+comes-to e d h k more host setup root recipes ts opened old mid new ended has (inl (is, same)) =
     shut halt.Memory (ap come_to is)
-    (λ sets needs ps order. subst (λ n. HasTrace (both e h) (all_opened sets front.handed ps) old n (Err halt.Memory)) (sym same) (late-memory (both e h) (all_opened sets front.handed ps) old mid opened (has.steps sets needs ps order)))
+    (λ sets needs ps order. subst (λ n. HasTrace (both e h) (all_opened sets setup.handed ps) old n (Err halt.Memory)) (sym same) (late-memory (both e h) (all_opened sets setup.handed ps) old mid opened (has.steps sets needs ps order)))
     (ap executed_in same ∙ has.unexecuted)
-comes-to e d h k more host front root recipes ts opened old mid new ended has (inr (run, runs)) = ran opened mid ended refl has run (runs-before e d h k more host (scene_of front recipes opened) ts mid new ended runs)
+comes-to e d h k more host setup root recipes ts opened old mid new ended has (inr (run, runs)) = ran opened mid ended refl has run (runs-before e d h k more host (scene_of setup recipes opened) ts mid new ended runs)

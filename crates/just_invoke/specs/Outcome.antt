@@ -19,7 +19,7 @@ use Rattle.just_recipes.specs.Places.{place_of}
 use Rattle.just_execution.specs.Reports.{IsRun, HasRunTrace}
 use Rattle.just_execution.specs.Scene.{running}
 use Rattle.just_scopes.specs.Open.{Opens}
-use Rattle.just_scopes.specs.Opening.{Front, Opened, scene_of}
+use Rattle.just_scopes.specs.Opening.{Opened, Setup, scene_of}
 use Rattle.just_invoke.specs.declared.invocation.Invocation as parsed
 use Rattle.just_justfile.specs.declared.justfile.Justfile.{Justfile}
 use Rattle.just_invoke.specs.Cause.{InvocationFault, cause_of}
@@ -50,23 +50,23 @@ pub record IsRunnable (counts : Counts) (root : Justfile) (recipes : List (Recip
   pub few : one ≡ true → length invoked ≤ 1
 
 -- The words are refused, and the log is as it was; or they may be run, and the modules are opened: they do not open, and nothing is executed; or they do, and then the steps of the run were taken in them.
-pub data IsOutcome (counts : Counts) (root : Justfile) (recipes : List (Recipe Dependency)) (words : List (List ℕ)) (config : Config) (front : Front)
+pub data IsOutcome (counts : Counts) (root : Justfile) (recipes : List (Recipe Dependency)) (words : List (List ℕ)) (config : Config) (setup : Setup)
     (evaluator : Inquiry → Option Answer) (host : Entry → Option Answer) (old new : Log) (result : Result Report Error) : Type 0 where
-  refused : (e : Error) → result ≡ Err e → IsRunRefusal counts root recipes words config.one e → new ≡ old → IsOutcome counts root recipes words config front evaluator host old new result
+  refused : (e : Error) → result ≡ Err e → IsRunRefusal counts root recipes words config.one e → new ≡ old → IsOutcome counts root recipes words config setup evaluator host old new result
   shut : (invoked : List Invoked) (e : Halt) → IsRunnable counts root recipes words config.one invoked → result ≡ Err (error_of e) →
-      Opens evaluator host front root recipes (tops recipes invoked) old new (Err e) → executed_in new ≡ executed_in old →
-      IsOutcome counts root recipes words config front evaluator host old new result
+      Opens evaluator host setup root recipes (tops recipes invoked) old new (Err e) → executed_in new ≡ executed_in old →
+      IsOutcome counts root recipes words config setup evaluator host old new result
   ran : (invoked : List Invoked) (opened : List Opened) (mid : Log) (ended : Result Report Halt) → IsRunnable counts root recipes words config.one invoked → result ≡ come_to ended →
-      HasOpened evaluator host front root recipes (tops recipes invoked) old mid opened →
-      IsRun (running front.handed.config.no_dependencies recipes) (tops recipes invoked) mid new ended →
-      HasRunTrace evaluator host (scene_of front recipes opened) (tops recipes invoked) mid new ended →
-      IsOutcome counts root recipes words config front evaluator host old new result
+      HasOpened evaluator host setup root recipes (tops recipes invoked) old mid opened →
+      IsRun (running setup.handed.config.no_dependencies recipes) (tops recipes invoked) mid new ended →
+      HasRunTrace evaluator host (scene_of setup recipes opened) (tops recipes invoked) mid new ended →
+      IsOutcome counts root recipes words config setup evaluator host old new result
 
 -- for promised answers: words that may be run are, as is expected
-abbrev pub RunsAsExpected : Counts → Justfile → List (Recipe Dependency) → List (List ℕ) → Config → Front → (Inquiry → Option Answer) → (Entry → Option Answer) → Log → Log → Result Report Error → Type 0
-RunsAsExpected counts root recipes words config front evaluator host old new result =
+abbrev pub RunsAsExpected : Counts → Justfile → List (Recipe Dependency) → List (List ℕ) → Config → Setup → (Inquiry → Option Answer) → (Entry → Option Answer) → Log → Log → Result Report Error → Type 0
+RunsAsExpected counts root recipes words config setup evaluator host old new result =
     (invoked : List Invoked) → IsRunnable counts root recipes words config.one invoked →
-    (ended : Result Report Halt) × (result ≡ come_to ended) × IsWholeRun evaluator host front root recipes (tops recipes invoked) old new ended
+    (ended : Result Report Halt) × (result ≡ come_to ended) × IsWholeRun evaluator host setup root recipes (tops recipes invoked) old new ended
 
 -- for the private functions: so many invocations are refused where one alone is allowed
 abbrev pub IsExcess : Bool → ℕ → Error → Type 0

@@ -17,7 +17,7 @@ use Rattle.just_run_layers.specs.Host.{Answer}
 use Rattle.just_run_layers.specs.Interactions.{Log, executed_in}
 use Rattle.just_run_layers.specs.declared.host.Entry.{Entry}
 use Rattle.just_scopes.specs.Open.{Opens}
-use Rattle.just_scopes.specs.Opening.{Front, Opened, scene_of}
+use Rattle.just_scopes.specs.Opening.{Opened, Setup, scene_of}
 use Rattle.just_invoke.specs.Whole.{HasOpened}
 
 -- a run in a scene: its steps were taken, and it is as is expected
@@ -26,15 +26,15 @@ pub record RunsInScene (evaluator : Inquiry → Option Answer) (host : Entry →
   pub expected : TasksRunAsExpected evaluator host scene ts old new ended
 
 -- in open modules tasks are not run for want of memory, and the log is as it was; or they are
-abbrev pub RunsOpen : (Inquiry → Option Answer) → (Entry → Option Answer) → Front → List (Recipe Dependency) → List Opened → List Task → Log → Log → Result Report Halt → Type 0
-RunsOpen evaluator host front recipes opened ts old new ended =
+abbrev pub RunsOpen : (Inquiry → Option Answer) → (Entry → Option Answer) → Setup → List (Recipe Dependency) → List Opened → List Task → Log → Log → Result Report Halt → Type 0
+RunsOpen evaluator host setup recipes opened ts old new ended =
     ((ended ≡ Err halt.Memory) × (new ≡ old))
-    ⊎ (IsRun (running front.handed.config.no_dependencies recipes) ts old new ended × RunsInScene evaluator host (scene_of front recipes opened) ts old new ended)
+    ⊎ (IsRun (running setup.handed.config.no_dependencies recipes) ts old new ended × RunsInScene evaluator host (scene_of setup recipes opened) ts old new ended)
 
 -- tasks are not run for want of memory, and the log is as it was; the modules do not open; or they do, and the tasks are run in them
-pub data RunEndsAs (evaluator : Inquiry → Option Answer) (host : Entry → Option Answer) (front : Front) (root : Justfile) (recipes : List (Recipe Dependency)) (ts : List Task) (old new : Log) (result : Result Report Error) : Type 0 where
-  out : result ≡ Err Memory → new ≡ old → RunEndsAs evaluator host front root recipes ts old new result
-  shut : (e : Halt) → result ≡ Err (error_of e) → Opens evaluator host front root recipes ts old new (Err e) → executed_in new ≡ executed_in old →
-      RunEndsAs evaluator host front root recipes ts old new result
-  ran : (opened : List Opened) (mid : Log) (ended : Result Report Halt) → result ≡ come_to ended → HasOpened evaluator host front root recipes ts old mid opened →
-      IsRun (running front.handed.config.no_dependencies recipes) ts mid new ended → RunsInScene evaluator host (scene_of front recipes opened) ts mid new ended → RunEndsAs evaluator host front root recipes ts old new result
+pub data RunEndsAs (evaluator : Inquiry → Option Answer) (host : Entry → Option Answer) (setup : Setup) (root : Justfile) (recipes : List (Recipe Dependency)) (ts : List Task) (old new : Log) (result : Result Report Error) : Type 0 where
+  out : result ≡ Err Memory → new ≡ old → RunEndsAs evaluator host setup root recipes ts old new result
+  shut : (e : Halt) → result ≡ Err (error_of e) → Opens evaluator host setup root recipes ts old new (Err e) → executed_in new ≡ executed_in old →
+      RunEndsAs evaluator host setup root recipes ts old new result
+  ran : (opened : List Opened) (mid : Log) (ended : Result Report Halt) → result ≡ come_to ended → HasOpened evaluator host setup root recipes ts old mid opened →
+      IsRun (running setup.handed.config.no_dependencies recipes) ts mid new ended → RunsInScene evaluator host (scene_of setup recipes opened) ts mid new ended → RunEndsAs evaluator host setup root recipes ts old new result

@@ -16,27 +16,27 @@ use Rattle.just_run_layers.specs.Interactions.{IsTraceOrPrefix, ArePromised, Log
 use Rattle.just_run_layers.specs.declared.host.Entry.{Entry}
 use Rattle.just_scopes.specs.Need.{AreNeeds, NumberSets}
 use Rattle.just_scopes.specs.Open.{AreOpenModules, Opens}
-use Rattle.just_scopes.specs.Opening.{Front, Opened, all_opened, scene_of}
+use Rattle.just_scopes.specs.Opening.{Opened, Setup, all_opened, scene_of}
 use Rattle.just_scopes.specs.Preorder.{IsPreorder, Placed}
 
 -- For every host: the modules were opened for tasks, in which nothing was executed; whatever a recipe reads to which the tasks lead has its value.
-pub record HasOpened (evaluator : Inquiry → Option Answer) (host : Entry → Option Answer) (front : Front) (root : Justfile) (recipes : List (Recipe Dependency)) (ts : List Task) (old mid : Log) (opened : List Opened) : Type 0 where
-  pub steps : Opens evaluator host front root recipes ts old mid (Ok opened)
-  pub are : AreOpenModules front.syntax root recipes ts opened
+pub record HasOpened (evaluator : Inquiry → Option Answer) (host : Entry → Option Answer) (setup : Setup) (root : Justfile) (recipes : List (Recipe Dependency)) (ts : List Task) (old mid : Log) (opened : List Opened) : Type 0 where
+  pub steps : Opens evaluator host setup root recipes ts old mid (Ok opened)
+  pub are : AreOpenModules setup.syntax root recipes ts opened
   pub unexecuted : executed_in mid ≡ executed_in old
 
 -- the whole run under answers f, by sets of what is needed and the modules in order
-abbrev pub whole_steps : NumberSets → Front → List (Recipe Dependency) → List Placed → (Question → Answer) → List Task → Interaction (Unit {0})
-whole_steps sets front recipes ps f ts = and_then (all_opened sets front.handed ps) (λ opened. expected_steps (scene_of front recipes opened) f ts)
+abbrev pub whole_steps : NumberSets → Setup → List (Recipe Dependency) → List Placed → (Question → Answer) → List Task → Interaction (Unit {0})
+whole_steps sets setup recipes ps f ts = and_then (all_opened sets setup.handed ps) (λ opened. expected_steps (scene_of setup recipes opened) f ts)
 
 -- in the scene to which the answers lead, priors do not hang on how a task is called
-abbrev pub PriorsIgnoreFlagIn : NumberSets → Front → List (Recipe Dependency) → List Placed → (Question → Answer) → List Task → Type 0
-PriorsIgnoreFlagIn sets front recipes ps f ts =
-    (opened : List Opened) → result_under f (all_opened sets front.handed ps) ≡ Ok opened → PriorsIgnoreFlag (interactions_of (scene_of front recipes opened)) f (length (scene_of front recipes opened).recipes) ts
+abbrev pub PriorsIgnoreFlagIn : NumberSets → Setup → List (Recipe Dependency) → List Placed → (Question → Answer) → List Task → Type 0
+PriorsIgnoreFlagIn sets setup recipes ps f ts =
+    (opened : List Opened) → result_under f (all_opened sets setup.handed ps) ≡ Ok opened → PriorsIgnoreFlag (interactions_of (scene_of setup recipes opened)) f (length (scene_of setup recipes opened).recipes) ts
 
 -- For promised answers: where the answers f are promised to all that the whole run asks, exactly that run is made, up to its first failing step; where memory or a number is refused, a beginning of it.
-abbrev pub IsWholeRun : (Inquiry → Option Answer) → (Entry → Option Answer) → Front → Justfile → List (Recipe Dependency) → List Task → Log → Log → Result Report Halt → Type 0
-IsWholeRun evaluator host front root recipes ts old new ended =
-    (sets : NumberSets) → AreNeeds front.syntax root recipes ts sets → (ps : List Placed) → IsPreorder root ps → (f : Question → Answer) →
-    ArePromised (both evaluator host) f (trace_under f (whole_steps sets front recipes ps f ts)) → PriorsIgnoreFlagIn sets front recipes ps f ts →
-    IsTraceOrPrefix (trace_under f (whole_steps sets front recipes ps f ts)) (result_under f (whole_steps sets front recipes ps f ts)) old new (without ended)
+abbrev pub IsWholeRun : (Inquiry → Option Answer) → (Entry → Option Answer) → Setup → Justfile → List (Recipe Dependency) → List Task → Log → Log → Result Report Halt → Type 0
+IsWholeRun evaluator host setup root recipes ts old new ended =
+    (sets : NumberSets) → AreNeeds setup.syntax root recipes ts sets → (ps : List Placed) → IsPreorder root ps → (f : Question → Answer) →
+    ArePromised (both evaluator host) f (trace_under f (whole_steps sets setup recipes ps f ts)) → PriorsIgnoreFlagIn sets setup recipes ps f ts →
+    IsTraceOrPrefix (trace_under f (whole_steps sets setup recipes ps f ts)) (result_under f (whole_steps sets setup recipes ps f ts)) old new (without ended)

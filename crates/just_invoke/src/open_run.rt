@@ -9,7 +9,7 @@ ghost use Rattle.just_run_layers.specs.Host.{KeepsPromises};
 ghost use Rattle.just_run_layers.specs.LineTexts.{AgreesWith};
 ghost use Rattle.just_run_layers.specs.Interactions.{log_of};
 ghost use Rattle.just_scopes.specs.Open.{AreOpenModules};
-ghost use Rattle.just_scopes.specs.Opening.{front_of, opened_of};
+ghost use Rattle.just_scopes.specs.Opening.{opened_of, setup_of};
 ghost use Rattle.just_invoke.specs.declared.invocation.Invocation.{Invocation};
 ghost use Rattle.just_invoke.specs.Results.{RunsOpen, RunEndsAs};
 ghost use Rattle.just_invoke.specs.Outcome.{tops_of};
@@ -46,8 +46,8 @@ fn run_open<'run, 'src, S: Syntax, E: Evaluation, H: Host>(
     ensures keeps_host { KeepsPromises (H.promised host.old) (H.promised host.new) }
     ensures runs { let first = log_of (H.entries host.old) (E.requests evaluation.old) in
         let last = log_of (H.entries host.new) (E.requests evaluation.new) in
-        let front = front_of (S.answers syntax.now) config.now overrides.now in
-        let runs = RunsOpen (E.promised evaluation.old) (H.promised host.old) front recipes.now (map opened_of opened.entry.items) in
+        let setup = setup_of (S.answers syntax.now) config.now overrides.now in
+        let runs = RunsOpen (E.promised evaluation.old) (H.promised host.old) setup recipes.now (map opened_of opened.entry.items) in
         runs tops.items first last result }
 {
     let scopes = scopes_of(alloc, config, syntax, overrides, opened)?;
@@ -75,8 +75,8 @@ pub(crate) fn run_invocations<'src, S: Syntax, E: Evaluation, H: Host>(
     ensures keeps_host { KeepsPromises (H.promised host.old) (H.promised host.new) }
     ensures comes { let first = log_of (H.entries host.old) (E.requests evaluation.old) in
         let last = log_of (H.entries host.new) (E.requests evaluation.new) in
-        let front = front_of (S.answers syntax.now) config.now overrides.now in
-        let comes = RunEndsAs (E.promised evaluation.old) (H.promised host.old) front root.now recipes.now (tops_of recipes.now invocations.now) in
+        let setup = setup_of (S.answers syntax.now) config.now overrides.now in
+        let comes = RunEndsAs (E.promised evaluation.old) (H.promised host.old) setup root.now recipes.now (tops_of recipes.now invocations.now) in
         comes first last result }
 {
     let tops = name_tops(alloc, recipes, invocations)?;

@@ -7,7 +7,7 @@ ghost use Rattle.just_parts.specs.Evaluator.{count_fault_of};
 ghost use Rattle.just_run_layers.specs.Host.{KeepsPromises};
 ghost use Rattle.just_run_layers.specs.Interactions.{log_of};
 ghost use Rattle.just_run_layers.specs.LineTexts.{AgreesWith};
-ghost use Rattle.just_scopes.specs.Opening.{front_of};
+ghost use Rattle.just_scopes.specs.Opening.{setup_of};
 ghost use Rattle.just_invoke.specs.Outcome.{IsExcess, IsOutcome, RunsAsExpected};
 
 use crate::command_run::run_command;
@@ -61,12 +61,12 @@ fn run_words<'src, S: Syntax, E: Evaluation, H: Host>(
     ensures outcome { let counts = count_fault_of (E.answers evaluation.old) in
         let first = log_of (H.entries host.old) (E.requests evaluation.old) in
         let last = log_of (H.entries host.new) (E.requests evaluation.new) in
-        let front = front_of (S.answers syntax.now) config.now overrides.now in
-        let outcome = IsOutcome counts root.now recipes.now (texts words.now) config.now front (E.promised evaluation.old) (H.promised host.old) in
+        let setup = setup_of (S.answers syntax.now) config.now overrides.now in
+        let outcome = IsOutcome counts root.now recipes.now (texts words.now) config.now setup (E.promised evaluation.old) (H.promised host.old) in
         outcome first last result }
     ensures expected { let counts = count_fault_of (E.answers evaluation.old) in
-        let front = front_of (S.answers syntax.now) config.now overrides.now in
-        let run = RunsAsExpected counts root.now recipes.now (texts words.now) config.now front (E.promised evaluation.old) (H.promised host.old) in
+        let setup = setup_of (S.answers syntax.now) config.now overrides.now in
+        let run = RunsAsExpected counts root.now recipes.now (texts words.now) config.now setup (E.promised evaluation.old) (H.promised host.old) in
         let first = log_of (H.entries host.old) (E.requests evaluation.old) in
         let last = log_of (H.entries host.new) (E.requests evaluation.new) in
         run first last result }
@@ -104,7 +104,7 @@ pub trait Run<'src> {
     ghost use Rattle.just_invoke.specs.Command.{AsksForProgram, IsProgramRun, IsProgramRunAsExpected};
     ghost use Rattle.just_invoke.specs.Evaluation.{AsksForValues, IsEvaluation, IsEvaluationAsExpected, RunsRecipes, WritesNothing, writer_of};
     ghost use Rattle.just_invoke.specs.Outcome.{RunsAsExpected, IsOutcome};
-    ghost use Rattle.just_scopes.specs.Opening.{front_of, handed_of};
+    ghost use Rattle.just_scopes.specs.Opening.{handed_of, setup_of};
 
     /// The module that is run.
     ghost root: { Self → Justfile };
@@ -161,13 +161,13 @@ pub trait Run<'src> {
         ensures outcome { let counts = count_fault_of (E.answers evaluation.old) in
             let first = log_of (H.entries host.old) (E.requests evaluation.old) in
             let last = log_of (H.entries host.new) (E.requests evaluation.new) in
-            let front = front_of (S.answers syntax.now) config.now overrides.now in
-            let outcome = IsOutcome counts (root self.now) recipes.now (texts words.now) config.now front (E.promised evaluation.old) (H.promised host.old) in
+            let setup = setup_of (S.answers syntax.now) config.now overrides.now in
+            let outcome = IsOutcome counts (root self.now) recipes.now (texts words.now) config.now setup (E.promised evaluation.old) (H.promised host.old) in
             RunsRecipes config.now → outcome first last result }
         // For promised answers.
         ensures expected { let counts = count_fault_of (E.answers evaluation.old) in
-            let front = front_of (S.answers syntax.now) config.now overrides.now in
-            let run = RunsAsExpected counts (root self.now) recipes.now (texts words.now) config.now front (E.promised evaluation.old) (H.promised host.old) in
+            let setup = setup_of (S.answers syntax.now) config.now overrides.now in
+            let run = RunsAsExpected counts (root self.now) recipes.now (texts words.now) config.now setup (E.promised evaluation.old) (H.promised host.old) in
             let first = log_of (H.entries host.old) (E.requests evaluation.old) in
             let last = log_of (H.entries host.new) (E.requests evaluation.new) in
             RunsRecipes config.now → run first last result }

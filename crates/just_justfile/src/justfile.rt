@@ -83,7 +83,7 @@ pub struct Justfile<'src> {
     /// The names of the variables that recipes do not have in their environment, each once, in the order of the module's
     /// files.
     pub unexports: Sequence<Name<'src>>,
-    /// What a front is told of the module's files, file after file.
+    /// What the caller is told of the module's files, file after file.
     pub warnings: Sequence<Warning>,
     /// The folder of its own file.
     pub working_directory: Text,

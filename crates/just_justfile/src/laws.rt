@@ -26,7 +26,8 @@ pub fn closes_its_modules()
 pub fn leads_inside()
     ensures along { (root j : Justfile) (names : List Text) → inner_along root names ≡ Some j → StandsIn root j }
     ensures walked { (root j : Justfile) (names : List Text) → end_from root names ≡ Inside j → inner_along root names ≡ Some j }
-    ensures led { (root j : Justfile) (name : _) (names : List Text) → inner_along root (name ∷ names) ≡ Some j → end_from root (name ∷ names) ≡ Inside j }
+    ensures led { (root j : Justfile) (name : _) (names : List Text) →
+        inner_along root (name ∷ names) ≡ Some j → end_from root (name ∷ names) ≡ Inside j }
 {}
 
 /// Where the root and the modules below it are closed, and the root's path has no names, each module that stands in the root is

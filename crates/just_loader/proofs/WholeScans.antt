@@ -26,7 +26,7 @@ use Rattle.just_loader.specs.Reached.{World, IsReachedFile, from_root, from_file
 use Rattle.just_errors.specs.Causes.{Cause}
 use Rattle.just_loader.specs.Scanned.{IsPlaceOf, ArePlacesOf, IsStepTo, IsStepOf, AreSteps, IsScanned, AreScanned, IsScan, paths_in, Grows, Extends}
 use Rattle.just_loader.specs.Sources.{Files}
-use Rattle.just_loader.specs.declared.found.Found.{Found}
+use Rattle.just_loader.specs.declared.index.Found.{Found}
 use Rattle.just_loader.specs.declared.scanned.Scan.{Scan}
 use Rattle.just_loader.specs.declared.scanned.ScannedFile.{ScannedFile}
 use Rattle.just_loader.specs.declared.sources.SourceFile.{SourceFile}

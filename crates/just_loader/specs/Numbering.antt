@@ -8,8 +8,8 @@ use Rattle.just_names.specs.Name.{text_of_name}
 use Rattle.just_names.specs.declared.name.Name.{Name}
 use Rattle.just_loader.specs.Sources.{Files}
 use Rattle.just_loader.specs.declared.sources.SourceFile.{SourceFile}
-use Rattle.just_loader.specs.declared.found.Found.{Found}
-use Rattle.just_loader.specs.declared.found.NameNumbers.{NameNumbers}
+use Rattle.just_loader.specs.declared.index.Found.{Found}
+use Rattle.just_loader.specs.declared.index.NameNumbers.{NameNumbers}
 
 -- the number of a text is its place
 abbrev pub IsNumbering : List (List ℕ) → (List ℕ → Option ℕ) → Type 0

@@ -16,8 +16,8 @@ use Rattle.just_loader.specs.Links.{Link, Nowhere, To, Fault}
 use Rattle.just_loader.specs.Numbering.{IsNamed, paths_found}
 use Rattle.just_loader.specs.Reached.{World, IsReachedFile, items_of_file, link, relative_to_root}
 use Rattle.just_loader.specs.Sources.{text_at}
-use Rattle.just_loader.specs.declared.found.Found.{Found}
-use Rattle.just_loader.specs.declared.found.NameNumbers.{NameNumbers}
+use Rattle.just_loader.specs.declared.index.Found.{Found}
+use Rattle.just_loader.specs.declared.index.NameNumbers.{NameNumbers}
 use Rattle.just_loader.specs.declared.scanned.Scan.{Scan}
 use Rattle.just_loader.specs.declared.scanned.ScannedFile.{ScannedFile}
 

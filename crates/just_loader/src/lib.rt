@@ -3,7 +3,7 @@
 
 mod circles;
 pub mod files;
-mod found;
+mod index;
 mod links;
 pub mod loaded;
 mod module_file;

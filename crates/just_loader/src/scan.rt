@@ -13,7 +13,7 @@ ghost use Rattle.just_loader.specs.Sources.{text_at};
 ghost use Rattle.just_loader.specs.Reading.{AreRead, GoesOn};
 ghost use Rattle.just_loader.specs.Scanned.{ArePlacesIn, IsPlaceOf, AreSteps, IsScannedIn, IsScan, Finds, FindsAll, Extends, HasAlsoSteps, HasFault};
 
-use crate::found::{Found, NameNumbers};
+use crate::index::{Found, NameNumbers};
 use crate::links::link;
 use crate::module_file::relative_path;
 use crate::reading::{ReadTexts, unless_exhausted};

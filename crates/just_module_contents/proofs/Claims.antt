@@ -10,7 +10,7 @@ use Rattle.std.proofs.lemmas.Slice.Eq.{bytes_eq-Decides}
 use Rattle.just_names.specs.Texts.{Text}
 use Rattle.just_names.proofs.SameTexts.{same_or_not}
 use Rattle.just_module_contents.specs.Kept.{IsBest, IsBestIndex, IsBestOf, IsBestSoFar, claim_at, is_outdone, lies_above, lies_beside, no_claim, outdoes, stays}
-use Rattle.just_module_contents.specs.declared.kept.Claim.{Claim}
+use Rattle.just_module_contents.specs.declared.precedence.Claim.{Claim}
 
 pub both_false : (a b : Bool) → (a ≡ true → b ≡ true → ⊥) → (a && b) ≡ false
 both_false true true h = absurd (h refl refl)

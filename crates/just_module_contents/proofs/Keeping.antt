@@ -18,7 +18,7 @@ use Rattle.just_names.specs.Index.{AreDifferent, name_at}
 use Rattle.just_module_contents.specs.Kept.{claim_at, claim_of_recipe, gives_way, kept, kept_recipes, left_of, lies_above, lies_beside, no_claim, stays}
 use Rattle.just_module_contents.specs.Recipes.{names_of}
 use Rattle.just_module_contents.specs.Resolved.{unresolved_numbers}
-use Rattle.just_module_contents.specs.declared.kept.Claim.{Claim}
+use Rattle.just_module_contents.specs.declared.precedence.Claim.{Claim}
 use Rattle.just_module_contents.proofs.Once.{from_once}
 
 -- an element that passes no test which none passes

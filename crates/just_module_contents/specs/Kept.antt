@@ -8,7 +8,7 @@ use Rattle.just_ast_definitions.specs.declared.assignment.Assignment.{Assignment
 use Rattle.just_recipe.specs.declared.dependency.UnresolvedDependency.{UnresolvedDependency}
 use Rattle.just_recipe.specs.declared.recipe.Recipe.{Recipe}
 use Rattle.just_module_contents.specs.Recipes.{name_of}
-use Rattle.just_module_contents.specs.declared.kept.Claim.{Claim}
+use Rattle.just_module_contents.specs.declared.precedence.Claim.{Claim}
 
 -- another definition of the same name lies at a smaller depth, or at the same
 abbrev pub lies_above : Claim → Claim → Bool

@@ -15,7 +15,7 @@ abbrev pub absent_by : Item → List Text
 absent_by (item.Module name relative None attributes doc true) = text_of_name name ∷ []
 absent_by _ = []
 
--- the names of the features that a file uses and that are not stable, and what a front is told of it
+-- the names of the features that a file uses and that are not stable, and what the caller is told of it
 abbrev pub features_by : Option Ast → List Text
 features_by None = []
 features_by (Some ast) = map (λ (f : UnstableFeature). f.name) ast.unstable_features

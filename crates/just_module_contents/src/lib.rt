@@ -4,9 +4,9 @@
 
 pub mod definitions;
 mod enabled;
-pub mod kept;
 mod labels;
 mod notes;
+pub mod precedence;
 pub mod redefinition;
 mod values;
 

@@ -17,7 +17,7 @@ pub struct Notes<'src> {
     pub absent_modules: Table<'src, BorrowedText<'src>>,
     /// The names of the features that they use and that are not stable.
     pub unstable_features: Table<'src, BorrowedText<'src>>,
-    /// What a front is told of them, file after file.
+    /// What the caller is told of them, file after file.
     pub warnings: Sequence<Warning>,
 }
 

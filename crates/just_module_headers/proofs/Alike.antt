@@ -45,7 +45,7 @@ use Rattle.just_module_contents.specs.Kept.{claim_of_recipe, gives_way, kept_rec
 use Rattle.just_module_contents.specs.Settings.{allows_variables}
 use Rattle.just_module_contents.specs.Shells.{BreaksLines, ScriptAttribute, BreaksShellRecipe, BreaksShells, invalid_attribute, of_attributes, of_lines, of_recipe}
 use Rattle.just_module_contents.specs.declared.definitions.Naming.{Naming}
-use Rattle.just_module_contents.specs.declared.kept.Claim.{Claim}
+use Rattle.just_module_contents.specs.declared.precedence.Claim.{Claim}
 use Rattle.just_module_contents.specs.RecipeNames.{BreaksRecipeNames, written_scopes}
 use Rattle.just_module_contents.specs.RecipeValues.{BreaksRecipe, HasPattern, IsPastLimits, Unvalued, of_names, of_pattern, of_value, of_values, past_limits, patterns_in}
 use Rattle.just_module_contents.specs.Recipes.{name_of, line_of, token_of, named_parameters, parameter_names, is_defaulted, is_needed, FollowsDefault, named_paths, dependency_paths, least_of, most_of, names_of, no_recipe, recipe_at, Depends, DependsOnRecipe}

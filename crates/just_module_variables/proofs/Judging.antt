@@ -18,7 +18,7 @@ use Rattle.just_module_contents.specs.Contents.{Contents}
 use Rattle.just_module_contents.specs.Known.{functions_under, known_of, variables_under}
 use Rattle.just_module_variables.specs.Variables.{known_with_numbers}
 use Rattle.just_module_contents.specs.Kept.{claim_of_variable, gives_way, kept, kept_variables, left_of}
-use Rattle.just_module_contents.specs.declared.kept.Claim.{Claim}
+use Rattle.just_module_contents.specs.declared.precedence.Claim.{Claim}
 
 -- what is kept goes by claims
 module _ {A : Type 0} (claim : A → Claim) (f : A → A) (same : (x : A) → claim (f x) ≡ claim x) where

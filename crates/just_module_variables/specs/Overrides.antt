@@ -1,4 +1,4 @@
--- What a front overrides, by the numbers of variables.
+-- What the caller overrides, by the numbers of variables.
 use Rattle.std.specs.Prelude.{List, [], ◌∷◌, flat_map, map, Option, None, Some, option_to_list, if◌then◌else◌}
 use Rattle.std.specs.Option.{option_or}
 use Rattle.just_names.specs.Texts.{Text}

@@ -1,4 +1,4 @@
-//! What a front overrides.
+//! What the caller overrides.
 
 ghost use Rattle.std.specs.Prelude.{◌≡◌, IfOk};
 ghost use Rattle.std.specs.HashMap.{get};

@@ -12,7 +12,7 @@ ghost use Rattle.just_parts.specs.Misnaming.{Expressions};
 use crate::variable_resolver::VariableResolver;
 use just_data::{BorrowedText, Sequence, copied};
 use just_module_contents::definitions::Definitions;
-use just_module_contents::kept::keep_variables;
+use just_module_contents::precedence::keep_variables;
 use just_parts::layers::{Assignment, Error, FunctionDefinition, Name, Number, Syntax};
 use just_table::Table;
 use std::alloc::{AllocError, Global};

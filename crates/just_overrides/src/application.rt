@@ -1,4 +1,4 @@
-//! The values that a front gives, by the numbers of their variables.
+//! The values that the caller gives, by the numbers of their variables.
 ghost use Rattle.std.specs.Prelude.{◌≡◌, IfErr, IfOk, OnErr, OnOk};
 ghost use Rattle.just_errors.specs.Causes.{Reports};
 ghost use Rattle.just_justfile.specs.Walks.{AreModulesOrdered};

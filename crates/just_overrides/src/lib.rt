@@ -1,4 +1,4 @@
-//! The values that a front gives for variables of modules: which variable a key means, and that each key means one.
+//! The values that the caller gives for variables of modules: which variable a key means, and that each key means one.
 #![tactic(auto)]
 
 mod application;

@@ -45,7 +45,8 @@ impl<'src, D> Recipe<'src, D> {
     ) -> Result<Sequence<Sequence<DependencyArgument<'src>>>, AllocError>
         ensures grouped { IfOk result (λ groups. groups ≡ grouped settings.now.lists self.now.parameters arguments.now) }
         ensures count { IfOk result (λ groups. length groups ≡ length self.now.parameters) }
-        ensures whole { IfOk result (λ groups. length arguments.now ≤ most_arguments settings.now.lists self.now.parameters → joined groups ≡ arguments.now) }
+        ensures whole { IfOk result (λ groups.
+            length arguments.now ≤ most_arguments settings.now.lists self.now.parameters → joined groups ≡ arguments.now) }
     {
         let mut groups = Vec::with_capacity(alloc, self.parameters.len())?;
         let mut taken = 0;

@@ -18,7 +18,7 @@ ghost use Rattle.just_recipe_resolver.specs.Resolved.{AreResolved, kept_in};
 use just_data::BorrowedText;
 use just_justfile::{Disabled, Justfile, RecipeKey};
 use just_module_contents::definitions::Definitions;
-use just_module_contents::kept::keep_recipes;
+use just_module_contents::precedence::keep_recipes;
 use just_module_recipes::Linked;
 use just_module_variables::VariableResolver;
 use just_parts::UnresolvedRecipe;

@@ -26,7 +26,7 @@ use Rattle.just_run_layers.specs.Host.{Answer}
 use Rattle.just_parts.specs.Layers.{override_at}
 use Rattle.just_parts.specs.Needs.{same_number}
 
--- what a front asks for
+-- what the caller asks for
 pub record ConfigContents : Type 0 where
   pub dry_run : Bool
   pub explain : Bool

@@ -21,7 +21,7 @@ use Rattle.just_recipe.specs.declared.dependency.Dependency.{Dependency}
 use Rattle.just_recipe.specs.declared.recipe.Recipe.{Recipe}
 use Rattle.just_scopes.proofs.Under.{has_path}
 use Rattle.just_scopes.specs.Open.{AreOpenModules}
-use Rattle.just_scopes.specs.Opening.{Front, Handed, Opened, contents_in, opened_at, opened_under, scene_of}
+use Rattle.just_scopes.specs.Opening.{Handed, Opened, Setup, contents_in, opened_at, opened_under, scene_of}
 use Rattle.just_scopes.specs.Scoped.{AreModulesOf}
 
 -- paths that are the same are equal, and equal ones are the same
@@ -89,10 +89,10 @@ module _ (answers : SyntaxAnswers) (root : Justfile) (recipes : List (Recipe Dep
       }
 
 -- and the scene that they are is that of open modules
-module _ (front : Front) (opened : List Opened) (modules : Modules) (under : AreModulesOf front.handed opened modules) where
-  same-under : (path : Option Modulepath) → contents_found (module_scope_at modules path) ≡ option_map (contents_in front.handed) (opened_under path opened)
+module _ (setup : Setup) (opened : List Opened) (modules : Modules) (under : AreModulesOf setup.handed opened modules) where
+  same-under : (path : Option Modulepath) → contents_found (module_scope_at modules path) ≡ option_map (contents_in setup.handed) (opened_under path opened)
   same-under None = refl
   same-under (Some path) = under path
 
-  pub same-scene : (recipes : List (Recipe Dependency)) → scenes.scene_with front.syntax modules (running front.handed.config.no_dependencies recipes) ≡ scene_of front recipes opened
-  same-scene recipes = λ i. record { syntax = front.syntax; recipes = running front.handed.config.no_dependencies recipes; modules = λ path. same-under path i }
+  pub same-scene : (recipes : List (Recipe Dependency)) → scenes.scene_with setup.syntax modules (running setup.handed.config.no_dependencies recipes) ≡ scene_of setup recipes opened
+  same-scene recipes = λ i. record { syntax = setup.syntax; recipes = running setup.handed.config.no_dependencies recipes; modules = λ path. same-under path i }

@@ -21,7 +21,7 @@ use Rattle.just_run_layers.specs.Interactions.{Log, HasTrace, both, log_of}
 use Rattle.just_run_layers.specs.declared.host.Entry.{Entry}
 use Rattle.just_run_layers.specs.declared.host.Entry.TheVariants as entry
 use Rattle.just_scopes.specs.Need.{AreNeeds, AreNeedsFrom, IsNeededFrom, IsToBeBound, NumberSets, asked}
-use Rattle.just_scopes.specs.Opening.{Front, Handed, Opened, all_opened, folder_of, opened_at}
+use Rattle.just_scopes.specs.Opening.{Handed, Opened, Setup, all_opened, folder_of, opened_at}
 use Rattle.just_scopes.specs.Preorder.{IsPreorder, IsPreorderUnder, Placed}
 
 -- a module and whether it is lazy
@@ -48,9 +48,9 @@ pub record AreOpenModules (answers : SyntaxAnswers) (root : Justfile) (recipes :
       (o : Opened) → Contains opened o → r.module_path ≡ Some (out-Justfile o.justfile).module_path → IsServedBy answers r o
 
 -- For every host: the steps were taken that open the modules of the root, each lazy one by the set of what is needed.
-abbrev pub Opens : (Inquiry → Option Answer) → (Entry → Option Answer) → Front → Justfile → List (Recipe Dependency) → List Task → Log → Log → Result (List Opened) Halt → Type 0
-Opens evaluator host front root recipes tops old new result =
-    (sets : NumberSets) → AreNeeds front.syntax root recipes tops sets → (ps : List Placed) → IsPreorder root ps → HasTrace (both evaluator host) (all_opened sets front.handed ps) old new result
+abbrev pub Opens : (Inquiry → Option Answer) → (Entry → Option Answer) → Setup → Justfile → List (Recipe Dependency) → List Task → Log → Log → Result (List Opened) Halt → Type 0
+Opens evaluator host setup root recipes tops old new result =
+    (sets : NumberSets) → AreNeeds setup.syntax root recipes tops sets → (ps : List Placed) → IsPreorder root ps → HasTrace (both evaluator host) (all_opened sets setup.handed ps) old new result
 
 -- For every host: the steps were taken that open the modules of the root, each as a lazy one whatever it sets, by the set of what is needed from some numbers.
 abbrev pub OpensLazily : (Inquiry → Option Answer) → (Entry → Option Answer) → Handed → Justfile → (Number → Bool) → Log → Log → Result (List Opened) Halt → Type 0

@@ -31,7 +31,7 @@ use Rattle.just_scopes.specs.Need.{NumberSets, asked}
 use Rattle.just_scopes.specs.Preorder.{Placed}
 use Rattle.just_scopes.specs.declared.opening.OpenedModule.{OpenedModule}
 
--- what a run hands to the layers of each module beside what the module has: what its front asks for, and the values that override variables
+-- what a run hands to the layers of each module beside what the module has: what its caller asks for, and the values that override variables
 pub record Handed : Type 0 where
   pub config : ConfigContents
   pub overrides : Number → Option Text
@@ -137,19 +137,19 @@ abbrev pub scope_at : Modulepath → List Opened → Scope
 scope_at path opened = (hands (opened_at path opened)).scope
 
 -- what a run takes beside modules and words: the grammar, and what it hands to the layers
-pub record Front : Type 0 where
+pub record Setup : Type 0 where
   pub syntax : SyntaxAnswers
   pub handed : Handed
 
-abbrev pub front_of : SyntaxAnswers → Config → HashMap Number Text (BuildHasherDefault FoldHasher) → Front
-front_of syntax config overrides = record { syntax = syntax; handed = handed_of config overrides }
+abbrev pub setup_of : SyntaxAnswers → Config → HashMap Number Text (BuildHasherDefault FoldHasher) → Setup
+setup_of syntax config overrides = record { syntax = syntax; handed = handed_of config overrides }
 
 -- the scene of open modules, with recipes as they run
-abbrev pub scene_of : Front → List (Recipe Dependency) → List Opened → Scene
-scene_of front recipes opened = record {
-  syntax = front.syntax;
-  recipes = running front.handed.config.no_dependencies recipes;
-  modules = λ path. option_map (contents_in front.handed) (opened_under path opened);
+abbrev pub scene_of : Setup → List (Recipe Dependency) → List Opened → Scene
+scene_of setup recipes opened = record {
+  syntax = setup.syntax;
+  recipes = running setup.handed.config.no_dependencies recipes;
+  modules = λ path. option_map (contents_in setup.handed) (opened_under path opened);
 }
 
 -- for the private functions: an open module as data

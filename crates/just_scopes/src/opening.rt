@@ -16,7 +16,7 @@ ghost use Rattle.just_run_layers.specs.Evaluation.{config_contents, in_set, set_
 ghost use Rattle.just_run_layers.specs.Host.{KeepsPromises, executed};
 ghost use Rattle.just_run_layers.specs.Interactions.{log_of};
 ghost use Rattle.just_scopes.specs.Open.{AreLazyModules, AreOpenModules, Opens, OpensLazily, whose_opened, whose_placed};
-ghost use Rattle.just_scopes.specs.Opening.{around, dotenv_steps, folder_of, front_of, handed_of, opened_as, opened_in, opened_of, scope_steps};
+ghost use Rattle.just_scopes.specs.Opening.{around, dotenv_steps, folder_of, handed_of, opened_as, opened_in, opened_of, scope_steps, setup_of};
 ghost use Rattle.just_scopes.specs.Opens.{AsksHostAlone, CanOpen, IsOpenedBy, IsSetFor, OpensAll, OpensOne, around_as, set_in, wanted_from};
 ghost use Rattle.just_scopes.specs.Preorder.{placed};
 
@@ -319,8 +319,8 @@ pub fn open_modules<'run, 'src, S: Syntax, E: Evaluation, H: Host>(
     ensures nothing_runs { executed (H.entries host.new) ≡ executed (H.entries host.old) }
     ensures took { let first = log_of (H.entries host.old) (E.requests evaluation.old) in
         let last = log_of (H.entries host.new) (E.requests evaluation.new) in
-        let front = front_of (S.answers syntax.now) config.now overrides.now in
-        let opens = Opens (E.promised evaluation.old) (H.promised host.old) front root.now recipes.now tops.now in
+        let setup = setup_of (S.answers syntax.now) config.now overrides.now in
+        let opens = Opens (E.promised evaluation.old) (H.promised host.old) setup root.now recipes.now tops.now in
         opens first last (opened_in result) }
     ensures open { IfOk result (λ os. AreOpenModules (S.answers syntax.now) root.now recipes.now tops.now (map opened_of os.items)) }
 {

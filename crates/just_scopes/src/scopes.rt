@@ -3,7 +3,7 @@ ghost use Rattle.std.specs.Prelude.{◌≡◌, map, option_map, IfOk};
 ghost use Rattle.just_execution.specs.Homes.{AllHaveModuleScope};
 ghost use Rattle.just_execution.specs.Scene.{scene_in};
 ghost use Rattle.just_scopes.specs.Open.{AreOpenModules};
-ghost use Rattle.just_scopes.specs.Opening.{front_of, handed_of, opened_at, opened_of, scene_of, scope_at};
+ghost use Rattle.just_scopes.specs.Opening.{handed_of, opened_at, opened_of, scene_of, scope_at, setup_of};
 ghost use Rattle.just_scopes.specs.Scoped.{AreModulesOf};
 
 use crate::context::context_of;
@@ -43,8 +43,8 @@ pub fn scopes_of<'run, 'src, S: Syntax>(
     overrides: &'run HashMap<Number, Text>,
     opened: Vec<OpenedModule<'run, 'src>>,
 ) -> Result<Scopes<'run, 'src, S>, AllocError>
-    ensures scene { let front = front_of (S.answers syntax.now) config.now overrides.now in
-        let scene = scene_of front in
+    ensures scene { let setup = setup_of (S.answers syntax.now) config.now overrides.now in
+        let scene = scene_of setup in
         IfOk result (λ scopes. (recipes : _) → scene_in (S.answers scopes.syntax.now) scopes recipes ≡ scene recipes (map opened_of opened.entry.items)) }
     ensures home { let is_open = AreOpenModules (S.answers syntax.now) in
         IfOk result (λ scopes. (root : _) (recipes : _) (tops : _) → is_open root recipes tops (map opened_of opened.entry.items) →

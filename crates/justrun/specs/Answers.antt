@@ -17,7 +17,7 @@ use Rattle.just_bench_bundle.specs.Input.{IsUnread}
 use Rattle.just_bench_bundle.specs.Near.{paths_like}
 use Rattle.just_bench_bundle.specs.Places.{IsLineOf}
 use Rattle.just_bench.specs.Entries.{entry_lines}
-use Rattle.just_bench.specs.Ran.{IsRunFault, Ran, plain_front}
+use Rattle.just_bench.specs.Ran.{IsRunFault, Ran, plain_setup}
 use Rattle.just_bench.specs.Writing.{GetsBeginning}
 use Rattle.just_bench.specs.declared.program_error.ProgramError.{ProgramError}
 use Rattle.just_bench.specs.declared.program_error.ProgramError.TheVariants as program
@@ -26,13 +26,13 @@ use Rattle.just_bench.specs.declared.program_error.ProgramError.TheVariants as p
 abbrev pub Comes : Files → Config → Text → Result Compilation Error → Type 0
 Comes files config root result = Compiles evaluator config.overrides (world_of files config (answers []) root) result
 
--- Words are run over the file at a root, with nothing that a front asks for: it is compiled, and this is the run.
+-- Words are run over the file at a root, with nothing that the caller asks for: it is compiled, and this is the run.
 pub record RunsOver (files : Files) (root : Text) (words : List Text) : Type 0 where
   pub config : Config
   pub plain : IsByDefault config
   pub compilation : Compilation
   pub compiled : Comes files config root (Ok compilation)
-  pub ran : Ran compilation.justfile compilation.recipes config (plain_front config compilation.overrides) words
+  pub ran : Ran compilation.justfile compilation.recipes config (plain_setup config compilation.overrides) words
 
 -- they ran, and what is written is a line for each recipe that began
 pub record IsDoneOver (files : Files) (root : Text) (words : List Text) (old new : Option (List ℕ)) : Type 0 where

@@ -8,7 +8,7 @@ ghost use Rattle.just_loader.specs.Sources.{text_at};
 ghost use Rattle.just_bench_syntax.specs.Answers.{answers};
 ghost use Rattle.just_bench_bundle.specs.Input.{IsReadOn};
 ghost use Rattle.just_bench.specs.Entries.{entry_lines};
-ghost use Rattle.just_bench.specs.Ran.{IsUndone, Ran, plain_front};
+ghost use Rattle.just_bench.specs.Ran.{IsUndone, Ran, plain_setup};
 ghost use Rattle.just_bench.specs.Writing.{BeginsLine, GetsLine};
 ghost use Rattle.just_bench.specs.declared.program_error.ProgramError.{ProgramError};
 ghost use Rattle.justrun.specs.Answers.{Comes, HasNotRun, HasRun, IsFailure, IsRunDone, IsDoneOver, IsProgramFault, IsFaultOver, TellsUncompiled};
@@ -80,10 +80,10 @@ fn run_compiled<'src, W: Write>(
 ) -> Result<(), ProgramError<'src>>
     requires can_run { CanRun (answers []) compilation.now.justfile compilation.now.recipes }
     requires overridden { HoldsOverridden compilation.now.justfile compilation.now.overrides }
-    ensures done { let front = plain_front config.now compilation.now.overrides in
+    ensures done { let front = plain_setup config.now compilation.now.overrides in
         let ran = Ran compilation.now.justfile compilation.now.recipes config.now front (texts words.now) in
         OnOk result ((r : ran) × IsOk r.result × Appends (W.contents output.old) (W.contents output.new) (entry_lines r.entries)) }
-    ensures fault { let front = plain_front config.now compilation.now.overrides in
+    ensures fault { let front = plain_setup config.now compilation.now.overrides in
         let undone = IsUndone compilation.now.justfile compilation.now.recipes config.now front (texts words.now) in
         IfErr result (undone (W.contents output.old) (W.contents output.new)) }
 {

@@ -2,7 +2,7 @@
 use crate::layers::config::Config;
 use std::alloc::Global;
 
-/// What an analysis is given: the layers that it asks, what a front asks of it, and the allocator.
+/// What an analysis is given: the layers that it asks, what the caller asks of it, and the allocator.
 #[derive(Drop)]
 pub struct Given<'given, S, E> {
     /// Where memory is taken.
@@ -11,6 +11,6 @@ pub struct Given<'given, S, E> {
     pub syntax: &'given S,
     /// What evaluates expressions.
     pub evaluation: &'given E,
-    /// What a front asks for.
+    /// What the caller asks for.
     pub config: &'given Config,
 }

@@ -7,7 +7,7 @@ use Rattle.just_run_layers.specs.Interactions.{log_of}
 use Rattle.just_invoke.specs.Outcome.{IsOutcome, memory, refused}
 use Rattle.just_bench_evaluation.specs.Answered.{plain_answer, request_of}
 use Rattle.just_ast_expressions.specs.declared.keyword.Keyword.{Keyword}
-use Rattle.just_scopes.specs.Opening.{front_of}
+use Rattle.just_scopes.specs.Opening.{setup_of}
 use Rattle.just_bench_syntax.specs.Answers.{answers}
 use Rattle.just_bench.specs.Ran.{plain_counts}
 use Rattle.just_bench.specs.Recorder.{script_promises}
@@ -25,5 +25,5 @@ pub returns : goal.returns
 returns c = λ runs.
     let asked = map request_of c.run.new.evaluation.asked.items in
     let ran : List (Keyword × Keyword) → List ScopeRequest → Type 0 = λ pairs requests.
-    IsOutcome plain_counts c.args.root.now c.args.recipes.now (texts c.args.words.now) c.args.config.now (front_of (answers pairs) c.args.config.now c.args.overrides.now) (λ inquiry. Some (plain_answer inquiry)) (script_promises c.args.host.now.script) (log_of c.args.host.now.entries requests) (log_of c.run.new.host.entries asked) c.run.result in
+    IsOutcome plain_counts c.args.root.now c.args.recipes.now (texts c.args.words.now) c.args.config.now (setup_of (answers pairs) c.args.config.now c.args.overrides.now) (λ inquiry. Some (plain_answer inquiry)) (script_promises c.args.host.now.script) (log_of c.args.host.now.entries requests) (log_of c.run.new.host.entries asked) c.run.result in
     (asked, subst (ran []) c.new-evaluation.ensures (subst (λ pairs. ran pairs (map request_of c.new-evaluation.result.asked.items)) c.new-syntax.ensures (c.run.ensures.outcome runs)))

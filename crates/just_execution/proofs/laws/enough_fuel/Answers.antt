@@ -1,6 +1,6 @@
 use Rattle.std.proofs.Common.{length}
 use Rattle.just_execution.specs.TaskInteractions.{interactions_of}
-use Rattle.just_execution.proofs.CourseLemmas.{below-more}
+use Rattle.just_execution.proofs.RunStates.{below-more}
 use Rattle.just_execution.proofs.TaskInteractions.{leaves-lower}
 use Rattle.just_execution.proofs.Whole.{more-run}
 use Rattle.just_execution.proofs.laws.enough_fuel.Goals as goal

@@ -8,7 +8,7 @@ use Rattle.just_execution.specs.Homes.{IsCallable, IsServed}
 use Rattle.just_execution.specs.TaskInteractions.{interactions_of, prepared}
 use Rattle.just_execution.specs.Walking.{Prepared}
 use Rattle.just_execution.specs.Scene.{scene_in}
-use Rattle.just_execution.proofs.CourseLemmas.{called-sound, counted-sound, pushed-calls}
+use Rattle.just_execution.proofs.RunStates.{called-sound, counted-sound, pushed-calls}
 use Rattle.just_execution.proofs.Goings.{goes-err, over-took, known-took, unasked-took, asked-took, halted-took}
 use Rattle.just_execution.proofs.Homes.{asked-callable}
 use Rattle.just_execution.proofs.TaskInteractions.{asked-below, leaves-lower}

@@ -6,7 +6,7 @@ use Rattle.just_execution.specs.Frames.{continuation_of, state_of}
 use Rattle.just_execution.specs.TaskInteractions.{interactions_of}
 use Rattle.just_execution.specs.declared.task.Task.{Task}
 use Rattle.just_execution.specs.Scene.{scene_in}
-use Rattle.just_execution.proofs.CourseLemmas.{block-last}
+use Rattle.just_execution.proofs.RunStates.{block-last}
 use Rattle.just_execution.proofs.Goings.{goes-err, failed-took, unfollowed-took, stopped-took, followed-took}
 use Rattle.just_execution.proofs.Homes.{followed-callable}
 use Rattle.just_execution.proofs.TaskInteractions.{followed-below, leaves-lower}

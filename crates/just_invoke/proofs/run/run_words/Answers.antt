@@ -5,7 +5,7 @@ use Rattle.just_parts.specs.Evaluator.{count_fault_of}
 use Rattle.just_names.specs.Texts.{texts}
 use Rattle.just_justfile.specs.Closed.{is_ordered}
 use Rattle.just_run_layers.specs.Interactions.{log_of}
-use Rattle.just_scopes.specs.Opening.{front_of}
+use Rattle.just_scopes.specs.Opening.{setup_of}
 use Rattle.just_invoke.specs.Results.{RunEndsAs}
 use Rattle.just_invoke.specs.Outcome.{tops, tops_of}
 use Rattle.just_invoke.specs.declared.invocation.Invocation.{Invocation}
@@ -18,21 +18,21 @@ parse_invocations-requires g c = is_ordered c.requires.can_run.rooted.closed
 
 pub returns-in_err-invocations-clause-outcome : goal.returns-in_err-invocations-clause-outcome
 returns-in_err-invocations-clause-outcome g c =
-    unread-outcome (count_fault_of (g.E.ConstantEvaluation.answers c.args.evaluation.now)) c.args.root.now c.args.recipes.now (texts c.args.words.now) c.args.config.now (front_of (g.S.Syntax.answers c.args.syntax.now) c.args.config.now c.args.overrides.now) c.in_err-invocations.field-0.0 c.in_err-invocations.ensures.words c.in_err-invocations.ensures.fault c.from_residual.result (search rules)
+    unread-outcome (count_fault_of (g.E.ConstantEvaluation.answers c.args.evaluation.now)) c.args.root.now c.args.recipes.now (texts c.args.words.now) c.args.config.now (setup_of (g.S.Syntax.answers c.args.syntax.now) c.args.config.now c.args.overrides.now) c.in_err-invocations.field-0.0 c.in_err-invocations.ensures.words c.in_err-invocations.ensures.fault c.from_residual.result (search rules)
     (g.E.Evaluation.promised c.args.evaluation.now) (g.H.Host.promised c.args.host.now) _
 
 pub returns-in_err-invocations-clause-expected : goal.returns-in_err-invocations-clause-expected
 returns-in_err-invocations-clause-expected g c =
     let p = g.E.Evaluation.promised c.args.evaluation.now in
     let q = g.H.Host.promised c.args.host.now in
-    unread-so (count_fault_of (g.E.ConstantEvaluation.answers c.args.evaluation.now)) c.args.root.now c.args.recipes.now (texts c.args.words.now) c.args.config.now (front_of (g.S.Syntax.answers c.args.syntax.now) c.args.config.now c.args.overrides.now) c.in_err-invocations.field-0.0 c.in_err-invocations.ensures.words c.in_err-invocations.ensures.fault c.from_residual.result (search rules) p q _
+    unread-so (count_fault_of (g.E.ConstantEvaluation.answers c.args.evaluation.now)) c.args.root.now c.args.recipes.now (texts c.args.words.now) c.args.config.now (setup_of (g.S.Syntax.answers c.args.syntax.now) c.args.config.now c.args.overrides.now) c.in_err-invocations.field-0.0 c.in_err-invocations.ensures.words c.in_err-invocations.ensures.fault c.from_residual.result (search rules) p q _
 
 pub returns-in_err-allow_few-clause-outcome : goal.returns-in_err-allow_few-clause-outcome
 returns-in_err-allow_few-clause-outcome g c =
     let items = c.in_ok-invocations.invocations.items in
     let is : IsErrAnd c.from_residual-in_err-allow_few.result (λ y. y ≡ c.in_err-allow_few.field-0.0) = search rules in
     let count : length c.as_slice.result.now ≡ length (map invoked_of items) = ap length c.as_slice.ensures.value ∙ sym (length-map items invoked_of) in
-    many-outcome (count_fault_of (g.E.ConstantEvaluation.answers c.args.evaluation.now)) c.args.root.now c.args.recipes.now (texts c.args.words.now) c.args.config.now (front_of (g.S.Syntax.answers c.args.syntax.now) c.args.config.now c.args.overrides.now)
+    many-outcome (count_fault_of (g.E.ConstantEvaluation.answers c.args.evaluation.now)) c.args.root.now c.args.recipes.now (texts c.args.words.now) c.args.config.now (setup_of (g.S.Syntax.answers c.args.syntax.now) c.args.config.now c.args.overrides.now)
     (map invoked_of items) c.in_ok-invocations.ensures.split (length c.as_slice.result.now) count c.in_err-allow_few.field-0.0 c.in_err-allow_few.ensures.many c.from_residual-in_err-allow_few.result is
     (g.E.Evaluation.promised c.args.evaluation.now) (g.H.Host.promised c.args.host.now) _
 
@@ -40,7 +40,7 @@ pub returns-in_err-allow_few-clause-expected : goal.returns-in_err-allow_few-cla
 returns-in_err-allow_few-clause-expected g c = λ others may.
     let items = c.in_ok-invocations.invocations.items in
     let count : length c.as_slice.result.now ≡ length (map invoked_of items) = ap length c.as_slice.ensures.value ∙ sym (length-map items invoked_of) in
-    absurd (many-not (count_fault_of (g.E.ConstantEvaluation.answers c.args.evaluation.now)) c.args.root.now c.args.recipes.now (texts c.args.words.now) c.args.config.now (front_of (g.S.Syntax.answers c.args.syntax.now) c.args.config.now c.args.overrides.now)
+    absurd (many-not (count_fault_of (g.E.ConstantEvaluation.answers c.args.evaluation.now)) c.args.root.now c.args.recipes.now (texts c.args.words.now) c.args.config.now (setup_of (g.S.Syntax.answers c.args.syntax.now) c.args.config.now c.args.overrides.now)
     (map invoked_of items) c.in_ok-invocations.ensures.split (length c.as_slice.result.now) count c.in_err-allow_few.field-0.0 c.in_err-allow_few.ensures.many others may)
 
 pub returns-clause-outcome : goal.returns-clause-outcome
@@ -48,7 +48,7 @@ returns-clause-outcome g c =
     let promised = g.E.Evaluation.promised c.args.evaluation.now in
     let answers = g.H.Host.promised c.args.host.now in
     let counts = count_fault_of (g.E.ConstantEvaluation.answers c.args.evaluation.now) in
-    let front = front_of (g.S.Syntax.answers c.args.syntax.now) c.args.config.now c.args.overrides.now in
+    let setup = setup_of (g.S.Syntax.answers c.args.syntax.now) c.args.config.now c.args.overrides.now in
     let root = c.args.root.now in
     let recipes = c.args.recipes.now in
     let items = c.in_ok-invocations.invocations.items in
@@ -57,16 +57,16 @@ returns-clause-outcome g c =
     let new = log_of (g.H.Host.entries c.run_invocations.new.host) (g.E.Evaluation.requests c.run_invocations.new.evaluation) in
     let count : length c.as_slice.result.now ≡ length invoked = ap length c.as_slice.ensures.value ∙ sym (length-map items invoked_of) in
     let few : c.args.config.now.one ≡ true → length invoked ≤ 1 = λ one. subst (λ n. n ≤ 1) count (c.in_ok-allow_few.ensures.few one) in
-    let goes : RunEndsAs promised answers front root recipes (tops recipes invoked) old new c.run_invocations.result =
-    subst (λ (is : List Invocation). RunEndsAs promised answers front root recipes (tops_of recipes is) old new c.run_invocations.result) c.as_slice-2.ensures.value c.run_invocations.ensures.comes in
-    went counts root recipes (texts c.args.words.now) c.args.config.now front promised answers invoked c.in_ok-invocations.ensures.split few old new c.run_invocations.result goes
+    let goes : RunEndsAs promised answers setup root recipes (tops recipes invoked) old new c.run_invocations.result =
+    subst (λ (is : List Invocation). RunEndsAs promised answers setup root recipes (tops_of recipes is) old new c.run_invocations.result) c.as_slice-2.ensures.value c.run_invocations.ensures.comes in
+    went counts root recipes (texts c.args.words.now) c.args.config.now setup promised answers invoked c.in_ok-invocations.ensures.split few old new c.run_invocations.result goes
 
 pub returns-clause-expected : goal.returns-clause-expected
 returns-clause-expected g c =
     let promised = g.E.Evaluation.promised c.args.evaluation.now in
     let answers = g.H.Host.promised c.args.host.now in
     let counts = count_fault_of (g.E.ConstantEvaluation.answers c.args.evaluation.now) in
-    let front = front_of (g.S.Syntax.answers c.args.syntax.now) c.args.config.now c.args.overrides.now in
+    let setup = setup_of (g.S.Syntax.answers c.args.syntax.now) c.args.config.now c.args.overrides.now in
     let root = c.args.root.now in
     let recipes = c.args.recipes.now in
     let items = c.in_ok-invocations.invocations.items in
@@ -75,6 +75,6 @@ returns-clause-expected g c =
     let new = log_of (g.H.Host.entries c.run_invocations.new.host) (g.E.Evaluation.requests c.run_invocations.new.evaluation) in
     let count : length c.as_slice.result.now ≡ length invoked = ap length c.as_slice.ensures.value ∙ sym (length-map items invoked_of) in
     let few : c.args.config.now.one ≡ true → length invoked ≤ 1 = λ one. subst (λ n. n ≤ 1) count (c.in_ok-allow_few.ensures.few one) in
-    let goes : RunEndsAs promised answers front root recipes (tops recipes invoked) old new c.run_invocations.result =
-    subst (λ (is : List Invocation). RunEndsAs promised answers front root recipes (tops_of recipes is) old new c.run_invocations.result) c.as_slice-2.ensures.value c.run_invocations.ensures.comes in
-    went-expected counts root recipes (texts c.args.words.now) c.args.config.now front promised answers invoked c.in_ok-invocations.ensures.split few old new c.run_invocations.result goes
+    let goes : RunEndsAs promised answers setup root recipes (tops recipes invoked) old new c.run_invocations.result =
+    subst (λ (is : List Invocation). RunEndsAs promised answers setup root recipes (tops_of recipes is) old new c.run_invocations.result) c.as_slice-2.ensures.value c.run_invocations.ensures.comes in
+    went-expected counts root recipes (texts c.args.words.now) c.args.config.now setup promised answers invoked c.in_ok-invocations.ensures.split few old new c.run_invocations.result goes
