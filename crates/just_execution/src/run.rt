@@ -223,10 +223,10 @@ fn start<'src, S: Syntax, E: Evaluation, H: Host>(
             calls: Vec::new(alloc),
         });
     }
-    let mut run = RunState::new(alloc)?;
-    push_calls(&mut run.frames, tasks)?;
-    finish(alloc, recipes, scopes, evaluation, host, &mut run)?;
-    Ok(Report { calls: run.calls })
+    let mut state = RunState::new(alloc)?;
+    push_calls(&mut state.frames, tasks)?;
+    finish(alloc, recipes, scopes, evaluation, host, &mut state)?;
+    Ok(Report { calls: state.calls })
 }
 
 /// Runs tasks in turn under one once table: each pair once, after its priors, and its subsequents after it under a table
