@@ -33,8 +33,8 @@ pub fn run_and_write<'src, W: Write>(
     requires overridden { HoldsOverridden root.now overrides.now }
     ensures done { let ran = Ran root.now recipes.now config.now (plain_setup config.now overrides.now) (texts words.now) in
         OnOk result ((r : ran) × IsOk r.result × Appends (W.contents output.old) (W.contents output.new) (entry_lines r.entries)) }
-    ensures fault { let front = plain_setup config.now overrides.now in
-        let undone = IsUndone root.now recipes.now config.now front (texts words.now) in
+    ensures fault { let setup = plain_setup config.now overrides.now in
+        let undone = IsUndone root.now recipes.now config.now setup (texts words.now) in
         IfErr result (undone (W.contents output.old) (W.contents output.new)) }
 {
     let mut host = Recorder::new(alloc);

@@ -29,8 +29,8 @@ pub fn run_words<'src>(
 ) -> Result<Report, Error<'src>>
     requires can_run { CanRun (answers []) root.now recipes.now }
     requires overridden { HoldsOverridden root.now overrides.now }
-    ensures { let front = plain_setup config.now overrides.now in
-        let outcome = IsPlainOutcome root.now recipes.now config.now front (texts words.now) host.old.script in
+    ensures { let setup = plain_setup config.now overrides.now in
+        let outcome = IsPlainOutcome root.now recipes.now config.now setup (texts words.now) host.old.script in
         outcome host.old.entries host.new.entries result }
 {
     let mut writer = StopWriter::new(alloc, 0)?;

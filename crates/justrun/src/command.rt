@@ -80,11 +80,11 @@ fn run_compiled<'src, W: Write>(
 ) -> Result<(), ProgramError<'src>>
     requires can_run { CanRun (answers []) compilation.now.justfile compilation.now.recipes }
     requires overridden { HoldsOverridden compilation.now.justfile compilation.now.overrides }
-    ensures done { let front = plain_setup config.now compilation.now.overrides in
-        let ran = Ran compilation.now.justfile compilation.now.recipes config.now front (texts words.now) in
+    ensures done { let setup = plain_setup config.now compilation.now.overrides in
+        let ran = Ran compilation.now.justfile compilation.now.recipes config.now setup (texts words.now) in
         OnOk result ((r : ran) × IsOk r.result × Appends (W.contents output.old) (W.contents output.new) (entry_lines r.entries)) }
-    ensures fault { let front = plain_setup config.now compilation.now.overrides in
-        let undone = IsUndone compilation.now.justfile compilation.now.recipes config.now front (texts words.now) in
+    ensures fault { let setup = plain_setup config.now compilation.now.overrides in
+        let undone = IsUndone compilation.now.justfile compilation.now.recipes config.now setup (texts words.now) in
         IfErr result (undone (W.contents output.old) (W.contents output.new)) }
 {
     let Compilation {
