@@ -1,4 +1,4 @@
 pub mod ExpressionText
 pub mod Parts
 pub mod Settings
-pub mod Taken
+pub mod loops

@@ -1,6 +1,6 @@
 ghost use Rattle.std.specs.Prelude.{◌≡◌, ◌⊎◌, []};
 ghost use Rattle.just_ast_expressions.specs.Parts.{parts};
-ghost use Rattle.just_ast_expressions.specs.Taken.{untaken};
+ghost use Rattle.just_ast_expressions.specs.loops.Taken.{untaken};
 
 use crate::parts::Parts;
 use just_data::{Exact, Excerpt, Sequence, Shared, Text};

@@ -1,6 +1,6 @@
 ghost use Rattle.std.specs.Prelude.{◌≡◌, [], ◌∷◌, ◌++◌, IfSome, IfNone};
 ghost use Rattle.just_ast_expressions.specs.Parts.{shape_parts};
-ghost use Rattle.just_ast_expressions.specs.Taken.{untaken};
+ghost use Rattle.just_ast_expressions.specs.loops.Taken.{untaken};
 
 use crate::expression::{Expression, Shape};
 

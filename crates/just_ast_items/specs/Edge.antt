@@ -4,8 +4,6 @@ use Rattle.just_names.specs.declared.name.Name.{Name}
 use Rattle.just_ast_expressions.specs.declared.string_literal.StringLiteral.{StringLiteral}
 use Rattle.just_ast_items.specs.declared.item.Item.{Item}
 use Rattle.just_ast_items.specs.declared.item.Item.TheVariants as item
-use Rattle.just_ast_items.specs.declared.edge.Edge.{Edge as LentEdge}
-use Rattle.just_ast_items.specs.declared.edge.Edge.TheVariants as lent
 
 -- It imports the file of a quoted text, or declares a module by its name, whose file may have one. Where it is optional, the file may be missing.
 pub data Edge : Type 0 where
@@ -16,11 +14,6 @@ abbrev pub edge_of : {R : Type 0} → Item R → Option Edge
 edge_of (item.Import relative absolute optional) = Some (Imports relative optional)
 edge_of (item.Module name relative absolute attributes doc optional) = Some (Declares name relative optional)
 edge_of _ = None
-
--- the same where it borrows from the item
-abbrev pub lent_edge : LentEdge → Edge
-lent_edge (lent.Import relative optional) = Imports relative.now optional
-lent_edge (lent.Module name relative optional) = Declares name.now relative.now optional
 
 -- the absolute path of the file to which an item leads, as far as it stands in the item
 abbrev pub absolute_of : {R : Type 0} → Item R → Option (List ℕ)

@@ -1,6 +1,7 @@
 //! How an item leads to a file.
 ghost use Rattle.std.specs.Prelude.{◌≡◌, option_map};
-ghost use Rattle.just_ast_items.specs.Edge.{edge_of, lent_edge, with_absolute};
+ghost use Rattle.just_ast_items.specs.Edge.{edge_of, with_absolute};
+ghost use Rattle.just_ast_items.specs.loops.Edge.{lent_edge};
 
 use crate::item::Item;
 use just_ast_expressions::StringLiteral;

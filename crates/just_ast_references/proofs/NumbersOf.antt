@@ -9,7 +9,8 @@ use Rattle.just_ast_expressions.specs.declared.expression.Expression.{Expression
 use Rattle.just_ast_expressions.specs.declared.expression.Shape.{Shape, roll-Shape, fold-roll-Shape, map-Shape}
 use Rattle.just_ast_expressions.specs.declared.expression.Shape.TheOpen.{Shape-F}
 use Rattle.just_ast_expressions.specs.declared.expression.Shape.TheVariants as shape
-use Rattle.just_ast_references.specs.Numbers.{numbered_layer, shape_numbered, shape_with_numbers, with_numbers}
+use Rattle.just_ast_references.specs.Numbers.{numbered_layer, shape_numbered, with_numbers}
+use Rattle.just_ast_references.specs.loops.Numbers.{shape_with_numbers}
 
 module _ (number_of : List ℕ → Option Number) where
   abbrev given : Expression → Expression

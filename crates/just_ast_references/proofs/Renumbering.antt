@@ -7,7 +7,8 @@ use Rattle.just_names.specs.declared.number.Number.{Number}
 use Rattle.just_ast_expressions.specs.declared.expression.Expression.{Expression, out-Expression, roll-Expression, out-roll-Expression}
 use Rattle.just_ast_expressions.specs.declared.expression.Shape.{Shape, out-Shape, roll-Shape, out-roll-Shape, roll-out-Shape, map-Shape}
 use Rattle.just_ast_expressions.specs.declared.expression.Shape.TheOpen.{Shape-F, Expression-F}
-use Rattle.just_ast_references.specs.Numbers.{numbered_layer, shape_with_numbers, with_numbers}
+use Rattle.just_ast_references.specs.Numbers.{numbered_layer, with_numbers}
+use Rattle.just_ast_references.specs.loops.Numbers.{shape_with_numbers}
 use Rattle.just_ast_expressions.specs.Parts.{layer_parts, parts, shape_parts}
 use Rattle.just_ast_references.specs.References.{layer_mention, shape_mention, mention, references}
 use Rattle.just_ast_references.proofs.Fold.{references_are}

@@ -1,4 +1,5 @@
-pub mod Body
+pub mod Mentions
 pub mod Numbers
 pub mod Parts
 pub mod References
+pub mod loops

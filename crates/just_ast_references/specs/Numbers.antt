@@ -3,7 +3,7 @@ use Rattle.std.specs.Prelude.{ℕ, List, Option, None}
 use Rattle.just_names.specs.Name.{text_of_name}
 use Rattle.just_names.specs.declared.number.Number.{Number}
 use Rattle.just_ast_expressions.specs.declared.expression.Expression.{Expression, fold-Expression, roll-Expression}
-use Rattle.just_ast_expressions.specs.declared.expression.Shape.{Shape, fold-Shape, roll-Shape}
+use Rattle.just_ast_expressions.specs.declared.expression.Shape.{Shape, roll-Shape}
 use Rattle.just_ast_expressions.specs.declared.expression.Shape.TheOpen.{Shape-F}
 
 -- one level, where a variable has the number that its name is given
@@ -17,9 +17,6 @@ shape_numbered number_of shape = roll-Shape (numbered_layer number_of shape)
 -- an expression whose variables have the numbers that their names are given
 unfoldable pub with_numbers : (List ℕ → Option Number) → Expression → Expression
 with_numbers number_of = fold-Expression Shape Expression (shape_numbered number_of) roll-Expression
-
-unfoldable pub shape_with_numbers : (List ℕ → Option Number) → Shape → Shape
-shape_with_numbers number_of = fold-Shape Shape Expression (shape_numbered number_of) roll-Expression
 
 -- an expression without numbers
 abbrev pub bare : Expression → Expression

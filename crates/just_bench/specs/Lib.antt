@@ -7,3 +7,4 @@ pub mod Script
 pub mod StopWriter
 pub mod Turns
 pub mod Writing
+pub mod loops

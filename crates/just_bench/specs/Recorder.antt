@@ -44,10 +44,6 @@ less (Some n) = before n
 abbrev pub counted : Recording → Recording
 counted r = record { entries = r.entries; script = r.script; left = less r.left }
 
--- a call is kept
-abbrev pub with_entry : Entry → Recording → Recording
-with_entry entry r = record { entries = r.entries ++ entry ∷ []; script = r.script; left = r.left }
-
 -- code 0, without a signal
 abbrev pub success : RunAnswer
 success = record { status = status.Code (pos 0); signal = None }

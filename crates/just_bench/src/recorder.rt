@@ -2,7 +2,8 @@
 ghost use Rattle.std.specs.Prelude.{◌≡◌, OnErr, OnOk, is_err};
 ghost use Rattle.just_run_layers.specs.declared.host.Entry.{Entry};
 ghost use Rattle.just_run_layers.specs.Host.{answered, done_answer, given, paired, run_answer};
-ghost use Rattle.just_bench.specs.Recorder.{IsCalled, counted, fresh, is_refused, recording, script_promises, success, with_entry};
+ghost use Rattle.just_bench.specs.Recorder.{IsCalled, counted, fresh, is_refused, recording, script_promises, success};
+ghost use Rattle.just_bench.specs.loops.Recorder.{with_entry};
 ghost use Rattle.just_bench.specs.Script.{unscripted};
 
 use crate::script::Script;

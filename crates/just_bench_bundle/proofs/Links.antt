@@ -1,6 +1,6 @@
 -- What an item leads to, where a search is told a path.
 use Rattle.std.proofs.Common.{◌≡◌, ℕ, List, sym, ap}
-use Rattle.just_bench_bundle.specs.Places.{lead_of}
+use Rattle.just_bench_bundle.specs.loops.Places.{lead_of}
 use Rattle.just_bench_bundle.specs.declared.leads.Lead.TheVariants as lead
 use Rattle.just_errors.specs.Causes.{NoFile, NoHome, NoImport, NoModule, SeveralFiles, LeadsBack, NoVariables, Broken, NoNumber}
 use Rattle.just_loader.specs.Links.{Link, Nowhere, To, Fault}

@@ -4,8 +4,9 @@ use Rattle.std.specs.List.{Contains}
 use Rattle.std.proofs.lemmas.List.{take_all, take_more}
 use Rattle.std.proofs.lemmas.Result.{IfOk-weaker}
 use Rattle.std.proofs.lemmas.List.Elements.{Contains-push_cases}
-use Rattle.just_bench_bundle.specs.Places.{Finds, FindsIn, HasItems, IsOnLine, StandsIn, StandsOn, edge_line, item_line}
-use Rattle.just_bench_bundle.specs.Walk.{LeadAmong}
+use Rattle.just_bench_bundle.specs.Places.{IsOnLine, StandsIn, StandsOn, edge_line, item_line}
+use Rattle.just_bench_bundle.specs.loops.Places.{Finds, FindsIn, HasItems}
+use Rattle.just_bench_bundle.specs.loops.Walk.{LeadAmong}
 use Rattle.just_bench_syntax.specs.Answers.{answers}
 use Rattle.just_loader.specs.Links.{Link, edge_link, link_by}
 use Rattle.just_loader.specs.Reached.{World, world_of, FileLeadsTo, items_of_file}

@@ -9,7 +9,7 @@ use Rattle.std.proofs.lemmas.Bool.{cases_Bool}
 use Rattle.std.proofs.lemmas.List.{length_push, map-append}
 use Rattle.std.proofs.lemmas.List.Elements.{Contains-push, Contains-push_cases}
 use Rattle.std.proofs.lemmas.Slice.Eq.{bytes_eq-Decides}
-use Rattle.just_bench_bundle.specs.Walk.{IsLeft, Walks, found_in}
+use Rattle.just_bench_bundle.specs.loops.Walk.{IsLeft, Walks, found_in}
 use Rattle.just_bench_bundle.specs.declared.walk.Walk.{Walk}
 use Rattle.just_names.specs.Texts.{texts}
 

@@ -10,8 +10,9 @@ use Rattle.std.proofs.lemmas.Map.Views.{Contains-keys_from_lookup}
 use Rattle.std.proofs.lemmas.Option.{slice_get_within}
 use Rattle.std.proofs.lemmas.Result.{IfOk-weaker, on_ok_weaker}
 use Rattle.std.proofs.lemmas.Slice.Eq.{bytes_eq-Decides}
-use Rattle.just_bench_bundle.specs.Places.{FindsIn, HasItems, IsLineOf, StandsIn, TellsLine}
-use Rattle.just_bench_bundle.specs.Walk.{HasAll, IsLeft, LeadAmong, LeavesNone, Walks, found_in}
+use Rattle.just_bench_bundle.specs.Places.{IsLineOf, StandsIn, TellsLine}
+use Rattle.just_bench_bundle.specs.loops.Places.{FindsIn, HasItems}
+use Rattle.just_bench_bundle.specs.loops.Walk.{HasAll, IsLeft, LeadAmong, LeavesNone, Walks, found_in}
 use Rattle.just_bench_bundle.specs.declared.places.FileLine.{FileLine}
 use Rattle.just_bench_bundle.specs.declared.walk.Walk.{Walk}
 use Rattle.just_bench_bundle.proofs.Standing.{file_leads, lead_among}

@@ -64,9 +64,3 @@ abbrev pub IsNoBundle : Text → BundleError → Type 0
 IsNoBundle text error.NoFile = (text ≢ []) × ((back : Text) → text ≢ mark ++ back)
 IsNoBundle text (error.NotClean line path) = HasBadPath text line path
 IsNoBundle text error.Memory = Unit {0}
-
--- why a part, which begins in this line, is no file
-abbrev pub IsNoFile : ℕ → Text → BundleError → Type 0
-IsNoFile line part (error.NotClean at path) = (at ≡ line) × (path ≡ before_first is_newline part) × (IsClean path → ⊥)
-IsNoFile line part error.Memory = Unit {0}
-IsNoFile line part error.NoFile = ⊥

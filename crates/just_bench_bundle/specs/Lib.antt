@@ -2,4 +2,4 @@ pub mod Bundle
 pub mod Input
 pub mod Near
 pub mod Places
-pub mod Walk
+pub mod loops

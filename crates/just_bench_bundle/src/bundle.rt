@@ -2,7 +2,8 @@
 ghost use Rattle.std.specs.Prelude.{◌≡◌, ◌≢◌, ◌∷◌, ◌++◌, [], ℕ, List, IfOk, IfErr, OnOk};
 ghost use Rattle.just_table.specs.Entries.{put};
 ghost use Rattle.just_bench_bundle.specs.Bundle as spec;
-ghost use Rattle.just_bench_bundle.specs.Bundle.{file_of, mark, HoldsBundle, IsNoBundle, IsNoFile};
+ghost use Rattle.just_bench_bundle.specs.Bundle.{file_of, mark, HoldsBundle, IsNoBundle};
+ghost use Rattle.just_bench_bundle.specs.loops.Bundle.{IsNoFile};
 
 use just_data::BorrowedText;
 use just_loader::Sources;

@@ -1,6 +1,7 @@
 //! Where an item leads, as far as a search asks, and the line on which it stands.
 ghost use Rattle.std.specs.Prelude.{◌≡◌, [], IfOk};
-ghost use Rattle.just_bench_bundle.specs.Places.{Finds, IsOnLine, item_line, lead_of};
+ghost use Rattle.just_bench_bundle.specs.Places.{IsOnLine, item_line};
+ghost use Rattle.just_bench_bundle.specs.loops.Places.{Finds, lead_of};
 ghost use Rattle.just_bench_syntax.specs.Answers.{answers};
 ghost use Rattle.just_errors.specs.Causes.{Reports};
 ghost use Rattle.just_loader.specs.Links.{Fault, Link, To, link_by};

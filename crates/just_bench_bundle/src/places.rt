@@ -2,7 +2,8 @@
 ghost use Rattle.std.specs.Prelude.{◌≡◌, [], Some, None, map, IfNone, IfOk, IfSome, OnOk};
 ghost use Rattle.std.specs.List.{Contains};
 ghost use Rattle.std.specs.Map.{keys_of};
-ghost use Rattle.just_bench_bundle.specs.Places.{Finds, FindsIn, HasItems, IsOfText, StandsOn, TellsLine};
+ghost use Rattle.just_bench_bundle.specs.Places.{StandsOn, TellsLine};
+ghost use Rattle.just_bench_bundle.specs.loops.Places.{Finds, FindsIn, HasItems, IsOfText};
 ghost use Rattle.just_bench_syntax.specs.Answers.{answers};
 ghost use Rattle.just_errors.specs.declared.error.Error.TheVariants as error;
 ghost use Rattle.just_errors.specs.declared.load_error.LoadError.TheVariants as load;

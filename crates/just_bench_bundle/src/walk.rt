@@ -1,8 +1,9 @@
 //! A walk over the files that a root reaches, to the first item that wants a home folder.
 ghost use Rattle.std.specs.Prelude.{◌≡◌, [], IfNone, IfOk, OnOk};
 ghost use Rattle.std.specs.List.{Contains};
-ghost use Rattle.just_bench_bundle.specs.Places.{Finds, FindsIn, IsOnLine, StandsOn, TellsLine};
-ghost use Rattle.just_bench_bundle.specs.Walk.{HasAll, LeadAmong, LeavesNone, Walks};
+ghost use Rattle.just_bench_bundle.specs.Places.{IsOnLine, StandsOn, TellsLine};
+ghost use Rattle.just_bench_bundle.specs.loops.Places.{Finds, FindsIn};
+ghost use Rattle.just_bench_bundle.specs.loops.Walk.{HasAll, LeadAmong, LeavesNone, Walks};
 ghost use Rattle.just_bench_syntax.specs.Answers.{answers};
 ghost use Rattle.just_errors.specs.Causes.{NoHome};
 ghost use Rattle.just_errors.specs.declared.error.Error.TheVariants as error;

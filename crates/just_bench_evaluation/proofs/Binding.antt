@@ -20,7 +20,7 @@ use Rattle.just_parts.specs.Needs.{same_number}
 use Rattle.just_run_layers.specs.declared.held.Held.{Held}
 use Rattle.just_run_layers.specs.Covering.{BindsParameters, binds, has_parameter}
 use Rattle.just_bench_evaluation.specs.Parameters.{bind_all, none_bound_in, parameter_value, scope_with, with_parameter}
-use Rattle.just_bench_evaluation.specs.Refusals.{TellsValue}
+use Rattle.just_bench_evaluation.specs.loops.Refusals.{TellsValue}
 use Rattle.just_bench_values.specs.Values.{Outcome}
 
 binds_none : (scope : Scope) → BindsParameters [] scope scope

@@ -7,7 +7,7 @@ use Rattle.just_errors.specs.declared.refusal.Refusal.TheVariants as refusal
 use Rattle.just_parts.specs.Evaluator.{FaultsAt}
 use Rattle.just_run_layers.specs.Host.{Answer, Answers, Refused, answered}
 use Rattle.just_bench_evaluation.specs.Answered.{or_refused}
-use Rattle.just_bench_evaluation.specs.Refusals.{TellsValue, IsRefusalOf, TellsNone}
+use Rattle.just_bench_evaluation.specs.loops.Refusals.{TellsValue, IsRefusalOf, TellsNone}
 
 -- nothing is told where there is no value
 pub gives_none : {A : Type 0} (o : Option A) (told : Refusal) → o ≡ None → TellsNone told → TellsValue o (Err told)

@@ -16,7 +16,7 @@ use Rattle.just_run_layers.specs.LineTexts.{BeginsPlain, EndsWithBackslash}
 use Rattle.just_errors.specs.declared.refusal.Refusal.{Refusal}
 use Rattle.just_ast_expressions.specs.declared.expression.Expression.{Expression}
 use Rattle.just_bench_evaluation.specs.Lines.{fragment_text, fragments_text}
-use Rattle.just_bench_evaluation.specs.Refusals.{TellsValue}
+use Rattle.just_bench_evaluation.specs.loops.Refusals.{TellsValue}
 use Rattle.just_bench_values.specs.Values.{Outcome}
 use Rattle.just_bench_syntax.specs.Sigils.{back, begun, front, leading, same, sigil_of, text_of}
 

@@ -4,3 +4,4 @@ pub mod Environments
 pub mod Lines
 pub mod Parameters
 pub mod Refusals
+pub mod loops

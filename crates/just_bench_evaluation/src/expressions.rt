@@ -3,7 +3,7 @@ ghost use Rattle.just_parts.specs.Told.{IsPlaceIn};
 ghost use Rattle.just_run_layers.specs.Evaluation.{contents_of};
 ghost use Rattle.just_bench_values.specs.Lookup.{TellsOutcome, behind};
 ghost use Rattle.just_bench_evaluation.specs.Answered as spec;
-ghost use Rattle.just_bench_evaluation.specs.Refusals.{TellsValue};
+ghost use Rattle.just_bench_evaluation.specs.loops.Refusals.{TellsValue};
 
 use crate::dependency::dependency_function;
 use crate::refusals::refusal_of;

@@ -3,7 +3,7 @@ ghost use Rattle.std.specs.Prelude.{◌≡◌, IfOk, map};
 ghost use Rattle.just_run_layers.specs.Evaluation.{contents_of};
 ghost use Rattle.just_bench_evaluation.specs.Answered.{run_value};
 ghost use Rattle.just_bench_evaluation.specs.Lines as spec;
-ghost use Rattle.just_bench_evaluation.specs.Refusals.{TellsValue};
+ghost use Rattle.just_bench_evaluation.specs.loops.Refusals.{TellsValue};
 
 use crate::expressions::run_text;
 use just_ast_definitions::Fragment;

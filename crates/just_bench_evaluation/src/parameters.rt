@@ -3,7 +3,7 @@ ghost use Rattle.std.specs.Prelude.{◌≡◌, IfOk, OnOk};
 ghost use Rattle.just_run_layers.specs.Evaluation.{contents_of};
 ghost use Rattle.just_bench_evaluation.specs.Answered.{run_parameters, run_value};
 ghost use Rattle.just_bench_evaluation.specs.Parameters as spec;
-ghost use Rattle.just_bench_evaluation.specs.Refusals.{TellsValue};
+ghost use Rattle.just_bench_evaluation.specs.loops.Refusals.{TellsValue};
 
 use crate::expressions::run_value;
 use crate::refusals::no_value;

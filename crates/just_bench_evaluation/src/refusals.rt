@@ -1,5 +1,5 @@
 //! What is told in a run where there is no value.
-ghost use Rattle.just_bench_evaluation.specs.Refusals.{IsRefusalOf, TellsNone};
+ghost use Rattle.just_bench_evaluation.specs.loops.Refusals.{IsRefusalOf, TellsNone};
 
 use just_data::Text;
 use just_errors::Refusal;

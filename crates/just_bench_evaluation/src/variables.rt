@@ -7,7 +7,7 @@ ghost use Rattle.just_run_layers.specs.Covering.{HasEvaluationOrder, wanted_in};
 ghost use Rattle.just_run_layers.specs.Evaluation.{contents_of, in_set, set_of};
 ghost use Rattle.just_bench_values.specs.Constants.{is_asked};
 ghost use Rattle.just_bench_evaluation.specs.Answered as spec;
-ghost use Rattle.just_bench_evaluation.specs.Refusals.{TellsValue};
+ghost use Rattle.just_bench_evaluation.specs.loops.Refusals.{TellsValue};
 
 use crate::refusals::refusal_of;
 use just_bench_values::constants_of;

@@ -6,7 +6,8 @@ use Rattle.std.proofs.lemmas.List.{append-nil, drop-drop}
 use Rattle.just_names.specs.Token.{lexeme}
 use Rattle.just_bench_expressions.specs.declared.lexer.Kind.{Kind}
 use Rattle.just_bench_expressions.specs.declared.lexer.Lexeme.{Lexeme}
-use Rattle.just_bench_expressions.specs.Spelling.{is_comma, is_plus, gap, spell, last_kind}
+use Rattle.just_bench_expressions.specs.Spelling.{is_comma, is_plus, gap, spell}
+use Rattle.just_bench_expressions.specs.loops.Spelling.{last_kind}
 use Rattle.just_bench_expressions.proofs.Spelled.{front_of, spell_to, spell_more, last-append}
 
 -- the lexeme stands at a place

@@ -13,7 +13,8 @@ use Rattle.just_names.specs.Token.{lexeme}
 use Rattle.just_bench_expressions.specs.declared.lexer.Kind.{Kind}
 use Rattle.just_bench_expressions.specs.declared.lexer.Lexeme.{Lexeme}
 use Rattle.just_bench_expressions.specs.Lexemes.{HasQuotes}
-use Rattle.just_bench_expressions.specs.Spelling.{is_comma, is_plus, gap, spelled_after, spell, last_kind, IsText, IsSpelling}
+use Rattle.just_bench_expressions.specs.Spelling.{is_comma, is_plus, gap, spelled_after, spell, IsText, IsSpelling}
+use Rattle.just_bench_expressions.specs.loops.Spelling.{last_kind}
 
 pub spelled-append : (before : Option Kind) (a b : List Lexeme) → spelled_after before (a ++ b) ≡ spelled_after before a ++ spelled_after (last_kind before a) b
 spelled-append before [] b = refl

@@ -6,3 +6,4 @@ pub mod Expressions
 pub mod Features
 pub mod Stack
 pub mod Forms
+pub mod loops

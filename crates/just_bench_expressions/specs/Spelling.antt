@@ -32,11 +32,6 @@ spelled_after before (l ∷ rest) = gap before l.kind ++ lexeme l.token ++ spell
 abbrev pub spell : List Lexeme → List ℕ
 spell = spelled_after None
 
--- the kind of the last lexeme, after one of this kind
-abbrev pub last_kind : Option Kind → List Lexeme → Option Kind
-last_kind before [] = before
-last_kind before (l ∷ rest) = last_kind (Some l.kind) rest
-
 -- the lexeme is text
 abbrev pub IsText : Lexeme → Type 0
 IsText l = IsUtf8 (lexeme l.token)

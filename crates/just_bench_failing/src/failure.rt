@@ -1,6 +1,7 @@
 //! The question that fails.
 ghost use Rattle.std.specs.Prelude.{◌≡◌, ◌⊎◌, None, IfOk};
-ghost use Rattle.just_bench_failing.specs.Failing.{FailsAt, IsCounted, IsFaulted};
+ghost use Rattle.just_bench_failing.specs.Failing.{FailsAt};
+ghost use Rattle.just_bench_failing.specs.loops.Failing.{IsCounted, IsFaulted};
 
 use just_data::Text;
 use just_errors::{Fault, Refusal};

@@ -20,7 +20,8 @@ use Rattle.just_bench_syntax.specs.declared.items.Items.{Items}
 use Rattle.just_bench_syntax.specs.Items.{items_of}
 use Rattle.just_bench_syntax.specs.Proper.{IsProper}
 use Rattle.just_bench_syntax.specs.Answers.{answers, ast_of, counted_in, spends}
-use Rattle.just_bench_syntax.specs.Numbering.{Spent, counted}
+use Rattle.just_bench_syntax.specs.Numbering.{counted}
+use Rattle.just_bench_syntax.specs.loops.Numbering.{Spent}
 use Rattle.just_bench_syntax.specs.Refusal.{RefusesLine}
 
 pub all_bare : (items : List Item) → All IsProper items → All (λ i. bare_item i ≡ i) items

@@ -6,7 +6,8 @@ use Rattle.std.proofs.lemmas.List.{drop-set-lt, take_more_set}
 use Rattle.std.proofs.lemmas.List.Elements.{All-head, All-tail}
 use Rattle.just_parts.specs.Items.{Item}
 use Rattle.just_parts.specs.Syntax.{AreRising, item_numbers, numbers}
-use Rattle.just_bench_syntax.specs.Numbering.{AreNumberedInTurn, counted}
+use Rattle.just_bench_syntax.specs.Numbering.{counted}
+use Rattle.just_bench_syntax.specs.loops.Numbering.{AreNumberedInTurn}
 
 rising_lower : (low middle : ℕ) (ns : List ℕ) (high : ℕ) → low ≤ middle → AreRising middle ns high → AreRising low ns high
 rising_lower low middle [] high h rising = omega (arith, h, rising)

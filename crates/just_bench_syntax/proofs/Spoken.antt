@@ -13,7 +13,8 @@ use Rattle.just_names.specs.Token.{lexeme}
 use Rattle.just_names.proofs.Indexing.{texts_apart}
 use Rattle.just_ast_definitions.specs.declared.parameter.Parameter.{Parameter}
 use Rattle.just_bench_syntax.specs.declared.recipe.Spoken.{Spoken}
-use Rattle.just_bench_syntax.specs.Recipe.{AreFoundNames, fits, is_parameter, misfit, misfit_from, names_of, options_of, spoken_of}
+use Rattle.just_bench_syntax.specs.Recipe.{AreFoundNames, fits, is_parameter, misfit, misfit_from, names_of, options_of}
+use Rattle.just_bench_syntax.specs.loops.Recipe.{spoken_of}
 
 -- nothing is said of a name that no attribute has among the first
 pub none_said : (ss : List Spoken) (name : Text) (n : ℕ) → ((k : ℕ) → k < n → name_at (spoken_of ss) k ≢ name) → options_of (take n ss) name ≡ None

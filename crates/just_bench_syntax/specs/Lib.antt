@@ -7,3 +7,4 @@ pub mod Numbering
 pub mod Refusal
 pub mod Shebangs
 pub mod Sigils
+pub mod loops

@@ -27,9 +27,6 @@ is_parameter parameters name = list_any (λ (p : Parameter). bytes_eq (lexeme p.
 abbrev pub names_of : List Parameter → List (List ℕ)
 names_of = map (λ (p : Parameter). lexeme p.name.token)
 
-abbrev pub spoken_of : List Spoken → List (List ℕ)
-spoken_of = map (λ (s : Spoken). s.options.parameter)
-
 -- for the private functions: what is said of each name stands at the place that is found for it
 abbrev pub AreFoundNames : List Spoken → (List ℕ → Option ℕ) → Type 0
 AreFoundNames spoken place = (name : List ℕ) → options_of spoken name ≡ option_and_then (slice_get spoken) (place name)

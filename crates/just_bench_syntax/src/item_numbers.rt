@@ -3,7 +3,8 @@ ghost use Rattle.std.specs.Prelude.{◌≡◌, ◌≤◌, ◌+◌, ◌^◌, leng
 ghost use Rattle.std.specs.List.{All};
 ghost use Rattle.just_parts.specs.Bare.{bare_assignment, bare_function, bare_function_parameter, bare_item, bare_parameter, bare_recipe};
 ghost use Rattle.just_parts.specs.Syntax.{CameBy, ItemCameBy, function_numbers, item_numbers, numbers, parameter_numbers, recipe_numbers};
-ghost use Rattle.just_bench_syntax.specs.Numbering.{AreNumberedInTurn, Spent, counted};
+ghost use Rattle.just_bench_syntax.specs.Numbering.{counted};
+ghost use Rattle.just_bench_syntax.specs.loops.Numbering.{AreNumberedInTurn, Spent};
 
 use just_ast_definitions::{Assignment, FunctionDefinition, FunctionParameter, Parameter};
 use just_data::Sequence;

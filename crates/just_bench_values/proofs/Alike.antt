@@ -11,8 +11,9 @@ use Rattle.just_parts.specs.Reading.{mentions}
 use Rattle.just_ast_expressions.specs.declared.expression.Expression.{Expression, out-Expression, out-roll-Expression}
 use Rattle.just_ast_expressions.specs.declared.expression.Shape.{Shape, out-Shape, roll-Shape, roll-out-Shape}
 use Rattle.just_ast_expressions.specs.declared.expression.Shape.TheOpen.{Shape-F, Expression-F}
-use Rattle.just_ast_references.specs.Body.{Calls, Mention, Names, mention_of}
-use Rattle.just_ast_references.specs.Numbers.{bare, shape_with_numbers, with_numbers}
+use Rattle.just_ast_references.specs.Mentions.{Calls, Mention, Names, mention_of}
+use Rattle.just_ast_references.specs.Numbers.{bare, with_numbers}
+use Rattle.just_ast_references.specs.loops.Numbers.{shape_with_numbers}
 use Rattle.just_ast_expressions.specs.Parts.{layer_parts, parts, shape_parts}
 use Rattle.just_ast_references.specs.References.{layer_mention, mention, references, shape_mention}
 use Rattle.just_ast_references.proofs.Fold.{references_are}

@@ -7,7 +7,8 @@ use Rattle.just_names.specs.Texts.{Text}
 use Rattle.just_names.specs.Name.{text_of_name}
 use Rattle.just_ast_definitions.specs.declared.function_definition.FunctionDefinition.{FunctionDefinition}
 use Rattle.just_table.specs.Entries.{find}
-use Rattle.just_bench_values.specs.Lookup.{behind, named_so}
+use Rattle.just_bench_values.specs.Lookup.{behind}
+use Rattle.just_bench_values.specs.loops.Lookup.{named_so}
 
 first_of : (b : Bool) (g : FunctionDefinition) (o p q : Option FunctionDefinition) → o ≡ option_or p q → cond b (Some g) o ≡ option_or (cond b (Some g) p) q
 first_of true g o p q rest = refl

@@ -9,7 +9,7 @@ use Rattle.just_parts.specs.Evaluator.{Functions, Values}
 use Rattle.just_ast_expressions.specs.declared.expression.Expression.{Expression, out-Expression}
 use Rattle.just_ast_expressions.specs.declared.expression.Shape.{Shape}
 use Rattle.just_ast_expressions.specs.declared.expression.Shape.TheVariants as shape
-use Rattle.just_bench_values.specs.Tasks.{call_in, call_with, value_in, values_in, variable_in}
+use Rattle.just_bench_values.specs.loops.Tasks.{call_in, call_with, value_in, values_in, variable_in}
 use Rattle.just_bench_values.specs.Values.{Outcome, all_of, evaluated, hiding, one_after_another, put_together, shape_evaluated, value_with}
 use Rattle.just_bench_values.specs.declared.tasks.Among.{Among}
 use Rattle.just_bench_values.specs.declared.tasks.Frame.{Frame}

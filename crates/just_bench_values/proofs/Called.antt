@@ -14,7 +14,7 @@ use Rattle.just_ast_definitions.specs.declared.function_definition.FunctionDefin
 use Rattle.just_ast_definitions.specs.declared.function_definition.FunctionParameter.{FunctionParameter}
 use Rattle.just_ast_references.specs.Numbers.{bare}
 use Rattle.just_table.specs.Entries.{find}
-use Rattle.just_bench_values.specs.Tasks.{call_with}
+use Rattle.just_bench_values.specs.loops.Tasks.{call_with}
 use Rattle.just_bench_values.specs.Values.{Outcome, body_with, bound, value_with}
 use Rattle.just_bench_values.proofs.Alike.{bare_value}
 use Rattle.just_bench_values.proofs.Branches.{with_is}

@@ -12,9 +12,10 @@ use Rattle.just_ast_expressions.specs.Parts.{parts}
 use Rattle.just_parts.specs.Evaluator.{functions_by_name}
 use Rattle.just_parts.specs.Told.{IsPlaceIn, IsPlaceInOne}
 use Rattle.just_table.specs.Entries.{find}
-use Rattle.just_bench_values.specs.Lookup.{constant_values, functions_in, in_called, local_values}
+use Rattle.just_bench_values.specs.Lookup.{constant_values, functions_in, local_values}
+use Rattle.just_bench_values.specs.loops.Lookup.{in_called}
 use Rattle.just_bench_values.specs.Sink.{sent}
-use Rattle.just_bench_values.specs.Tasks.{Goes, IsPlaceOfOne, call_in, cost, ran, value_in, values_in}
+use Rattle.just_bench_values.specs.loops.Tasks.{Goes, IsPlaceOfOne, call_in, cost, ran, value_in, values_in}
 use Rattle.just_bench_values.specs.Values.{bound, one_after_another, value_with}
 use Rattle.just_bench_values.specs.declared.sink.Sink.{Sink}
 use Rattle.just_bench_values.specs.declared.sink.Sink.TheVariants as sink

@@ -18,7 +18,7 @@ use Rattle.just_parts.specs.Evaluator.{FaultsAt}
 use Rattle.just_parts.specs.Told.{IsToldIn, nowhere}
 use Rattle.just_bench_values.specs.Lookup.{functions_in}
 use Rattle.just_bench_values.specs.Sink.{sent, sent_one}
-use Rattle.just_bench_values.specs.Tasks.{Advances, Goes, IsPlaceOfOne, Sends, call_in, cost, ran, value_in, values_in, variable_in, with_sum}
+use Rattle.just_bench_values.specs.loops.Tasks.{Advances, Goes, IsPlaceOfOne, Sends, call_in, cost, ran, value_in, values_in, variable_in, with_sum}
 use Rattle.just_bench_values.specs.Values.{one_after_another, shape_evaluated}
 use Rattle.just_bench_values.specs.declared.sink.Sink.{Sink}
 use Rattle.just_bench_values.specs.declared.sink.Sink.TheVariants as sink

@@ -9,7 +9,7 @@ use Rattle.just_ast_expressions.specs.declared.expression.Expression.{Expression
 use Rattle.just_ast_expressions.specs.Parts.{parts}
 use Rattle.just_ast_expressions.proofs.Sizes.{size, size_is}
 use Rattle.just_table.specs.Entries.{find}
-use Rattle.just_bench_values.specs.Tasks.{bodies_size, body_size, cost, room}
+use Rattle.just_bench_values.specs.loops.Tasks.{bodies_size, body_size, cost, room}
 
 -- a body is no larger than all together
 larger : (b : Bool) (entry : Text × FunctionDefinition) (rest : Option FunctionDefinition) (all : ℕ) (f : FunctionDefinition) → ((f : FunctionDefinition) → rest ≡ Some f → size f.body ≤ all) →

@@ -21,7 +21,7 @@ use Rattle.just_ast_references.specs.declared.references.Reference.TheVariants a
 use Rattle.just_ast_references.proofs.MentionsOf.{mention_of-Call, mention_of-Variable}
 use Rattle.just_ast_expressions.proofs.PartsOf.{parts_of-Call, parts_of-Concatenation, parts_of-Group, parts_of-List}
 use Rattle.just_parts.specs.Told.{IsPlaceIn, IsPlaceInOne, assigned_values, at_name, in_body, in_part, of_no_name, nowhere}
-use Rattle.just_bench_values.specs.Lookup.{IsPlaceOfCall, at_call, in_called}
+use Rattle.just_bench_values.specs.loops.Lookup.{IsPlaceOfCall, at_call, in_called}
 
 pub in_flat : {A B : Type 0} (f : A → List B) (xs : List A) (x : A) (y : B) → Contains xs x → Contains (f x) y → Contains (flat_map f xs) y
 in_flat f [] x y c h = absurd (omega (arith, c.1))

@@ -10,9 +10,9 @@ use Rattle.just_parts.specs.Reading.{Reads, at_once, mentions, through}
 use Rattle.just_ast_definitions.specs.declared.assignment.Assignment.{Assignment}
 use Rattle.just_ast_expressions.specs.declared.expression.Expression.{Expression}
 use Rattle.just_ast_definitions.specs.declared.function_definition.FunctionDefinition.{FunctionDefinition}
-use Rattle.just_ast_references.specs.Body.{Calls, Mention, Names}
+use Rattle.just_ast_references.specs.Mentions.{Calls, Mention, Names}
 use Rattle.just_table.specs.Entries.{find}
-use Rattle.just_bench_values.specs.Tasks.{call_with}
+use Rattle.just_bench_values.specs.loops.Tasks.{call_with}
 use Rattle.just_bench_values.specs.Values.{Outcome, bound, hiding, value_with}
 use Rattle.just_bench_values.proofs.Alike.{Agree, agreed_value}
 use Rattle.just_bench_values.proofs.Branches.{with_is}

@@ -17,7 +17,8 @@ use Rattle.just_parts.specs.Reading.{IsEvaluationOrder}
 use Rattle.just_ast_definitions.specs.declared.assignment.Assignment.{Assignment}
 use Rattle.just_ast_definitions.specs.declared.function_definition.FunctionDefinition.{FunctionDefinition}
 use Rattle.just_table.specs.Entries.{find}
-use Rattle.just_bench_values.specs.Constants.{Adds, assigned_value, values_after}
+use Rattle.just_bench_values.specs.Constants.{assigned_value, values_after}
+use Rattle.just_bench_values.specs.loops.Constants.{Adds}
 use Rattle.just_bench_values.specs.Lookup.{table_values}
 use Rattle.just_bench_values.specs.declared.lookup.Constant.{Constant}
 use Rattle.just_table.proofs.Puts.{find_put}

@@ -4,7 +4,7 @@ use Rattle.std.specs.Option.{option_and_then}
 use Rattle.just_names.specs.Texts.{Text}
 use Rattle.just_ast_expressions.specs.declared.expression.Expression.{Expression}
 use Rattle.just_bench_values.specs.Sink.{sent, texts_of}
-use Rattle.just_bench_values.specs.Tasks.{ran, value_in}
+use Rattle.just_bench_values.specs.loops.Tasks.{ran, value_in}
 use Rattle.just_bench_values.specs.Values.{Outcome}
 use Rattle.just_bench_values.specs.declared.sink.Sink.{Sink}
 use Rattle.just_bench_values.specs.declared.sink.Sink.TheVariants as sink

@@ -1,5 +1,5 @@
 -- What the constants of a module come to, and what the plain evaluation answers.
-use Rattle.std.specs.Prelude.{◌≡◌, ◌||◌, ℕ, zero, suc, Bool, true, not, List, [], ◌∷◌, length, map, reverse, Option, None, Some, is_some, if◌then◌else◌}
+use Rattle.std.specs.Prelude.{◌||◌, ℕ, zero, suc, Bool, true, not, List, [], ◌∷◌, length, map, reverse, Option, None, Some, is_some, if◌then◌else◌}
 use Rattle.std.proofs.Common.{BuildHasherDefault, FoldHasher}
 use Rattle.std.specs.Borrow.{Bor}
 use Rattle.std.specs.HashSet.{HashSet, contains}
@@ -12,10 +12,10 @@ use Rattle.just_names.specs.declared.name.Name.{Name}
 use Rattle.just_names.specs.declared.number.Number.{Number}
 use Rattle.just_parts.specs.Needs.{same_number}
 use Rattle.just_ast_expressions.specs.declared.scope.Scope.{Scope}
-use Rattle.just_parts.specs.Evaluator.{Evaluator, IsBindingOf, Values, Wanted}
+use Rattle.just_parts.specs.Evaluator.{Evaluator, Values, Wanted}
 use Rattle.just_ast_definitions.specs.declared.assignment.Assignment.{Assignment}
-use Rattle.just_table.specs.Entries.{find, put, put_all}
-use Rattle.just_bench_values.specs.Lookup.{constant_name, table_values}
+use Rattle.just_table.specs.Entries.{find, put_all}
+use Rattle.just_bench_values.specs.Lookup.{constant_name}
 use Rattle.just_bench_values.specs.declared.lookup.Constant.{Constant}
 use Rattle.just_bench_values.specs.Settings.{settings_of}
 use Rattle.just_bench_values.specs.Counts.{count_fault}
@@ -80,13 +80,3 @@ scope_of assignments order wanted = option_map (scope_along assignments order) (
 
 abbrev pub evaluator : Evaluator
 evaluator = record { constants = constants_of; value = value_of; settings = settings_of; count_fault = λ recipe p. count_fault p.kind }
-
--- A table of constants has one more: that of a variable of this name.
-pub record Adds (assignments : List (Text × Assignment)) (wanted : Wanted) (name : Text) (old new : List (Text × Constant)) : Type 0 where
-  pub constant : Constant
-  pub assigned : Assignment
-  pub is : find name assignments ≡ Some assigned
-  pub named : text_of_name constant.binding.name ≡ name
-  pub binding : IsBindingOf assigned constant.binding
-  pub value : assigned_value wanted (table_values old) name ≡ Some constant.binding.value
-  pub after : new ≡ put name constant old

@@ -3,5 +3,5 @@ pub mod Counts
 pub mod Lookup
 pub mod Settings
 pub mod Sink
-pub mod Tasks
 pub mod Values
+pub mod loops

@@ -2,19 +2,15 @@
 use Rattle.std.specs.Prelude.{◌≡◌, List, [], ◌∷◌, ◌++◌, reverse, Option, None, Some, if◌then◌else◌, Result, Ok, Err}
 use Rattle.std.specs.Borrow.{Bor}
 use Rattle.std.specs.Option.{option_and_then, option_map}
-use Rattle.std.specs.Str.{bytes_eq}
-use Rattle.just_errors.specs.declared.compile_error.CompileErrorKind.TheVariants as kind
 use Rattle.just_errors.specs.declared.error.Error.{Error}
-use Rattle.just_errors.specs.declared.error.Error.TheVariants as error
 use Rattle.just_ast_definitions.specs.declared.assignment.Assignment.{Assignment}
 use Rattle.just_ast_definitions.specs.declared.function_definition.FunctionDefinition.{FunctionDefinition}
 use Rattle.just_ast_expressions.specs.declared.scope.Binding.{Binding}
 use Rattle.just_ast_expressions.specs.declared.scope.Scope.{Scope}
-use Rattle.just_names.specs.declared.name.Name.{Name}
 use Rattle.just_names.specs.declared.number.Number.{Number}
 use Rattle.just_parts.specs.Evaluator.{FaultsAt, Values, values_of}
 use Rattle.just_parts.specs.Needs.{same_number}
-use Rattle.just_parts.specs.Told.{IsPlaceIn, IsToldIn}
+use Rattle.just_parts.specs.Told.{IsToldIn}
 use Rattle.just_names.specs.Texts.{Text}
 use Rattle.just_names.specs.Name.{text_of_name}
 use Rattle.just_names.specs.Token.{Place}
@@ -53,10 +49,6 @@ constant_values (constants.Listed scope) = values_of scope.now
 constant_values (constants.Tabled table) = table_values table.now
 constant_values (constants.Numbered variables) = variable_values variables.assignments.now variables.scope.now
 
--- a function, where it has this name
-abbrev pub named_so : FunctionDefinition → Text → Option FunctionDefinition
-named_so f name = if bytes_eq name (text_of_name f.name) then Some f else None
-
 -- functions, and one more behind them
 abbrev pub behind : FunctionDefinition → List (Text × FunctionDefinition) → List (Text × FunctionDefinition)
 behind f table = table ++ (text_of_name f.name, f) ∷ []
@@ -74,21 +66,7 @@ abbrev pub local_values : Locals → Values
 local_values (locals.Arguments arguments) = bound arguments.parameters.now arguments.values
 local_values (locals.Bindings scope) = values_of scope.now
 
--- a message is told at a token; want of memory aside
-abbrev pub IsToldAt : Place → Text → Error → Type 0
-IsToldAt place message (error.Compile e) = (e.token ≡ place) × (e.kind ≡ kind.Evaluate (record { message = message }))
-IsToldAt place message error.Memory = Unit {0}
-IsToldAt place message error.Exhausted = ⊥
-IsToldAt place message (error.Load e) = ⊥
-IsToldAt place message (error.Invocation e) = ⊥
-IsToldAt place message (error.Run e) = ⊥
-
 -- A result tells an outcome: the value, or a fault at one of these places where there is none; want of memory aside.
 abbrev pub TellsOutcome : {A : Type 0} → Option A → (Place → Type 0) → Result A Error → Type 0
 TellsOutcome outcome places (Ok value) = outcome ≡ Some value
 TellsOutcome outcome places (Err e) = FaultsAt outcome e × IsToldIn places e
-
--- a place of a call: that of its name, or one of the body that is called
-pub data IsPlaceOfCall (functions : List (Text × FunctionDefinition)) (name : Name) (place : Place) : Type 0 where
-  at_call : place ≡ name.token → IsPlaceOfCall functions name place
-  in_called : {f : FunctionDefinition} → find (text_of_name name) functions ≡ Some f → IsPlaceIn functions f.body place → IsPlaceOfCall functions name place

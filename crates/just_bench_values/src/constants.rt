@@ -11,7 +11,7 @@ ghost use Rattle.just_parts.specs.Reading.{IsEvaluationOrder};
 ghost use Rattle.just_parts.specs.Told.{IsPlaceIn, IsPlaceInOne, IsToldIn, assigned_values};
 ghost use Rattle.just_table.specs.Entries.{IsKeyed, IsSorted, find, put_all};
 ghost use Rattle.just_bench_values.specs.Constants as spec;
-ghost use Rattle.just_bench_values.specs.Constants.{Adds};
+ghost use Rattle.just_bench_values.specs.loops.Constants.{Adds};
 ghost use Rattle.just_bench_values.specs.Lookup.{TellsOutcome, constant_name, table_values};
 ghost use Rattle.just_bench_values.specs.Values as value;
 

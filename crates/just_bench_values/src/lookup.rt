@@ -5,7 +5,8 @@ ghost use Rattle.just_names.specs.Texts as path;
 ghost use Rattle.just_parts.specs.Evaluator.{FaultsAt, values_of};
 ghost use Rattle.just_parts.specs.Told.{IsToldIn, nowhere};
 ghost use Rattle.just_table.specs.Entries.{find};
-ghost use Rattle.just_bench_values.specs.Lookup.{IsToldAt, constant_values, functions_in, local_values, named_so, number_value, variable_values};
+ghost use Rattle.just_bench_values.specs.Lookup.{constant_values, functions_in, local_values, number_value, variable_values};
+ghost use Rattle.just_bench_values.specs.loops.Lookup.{IsToldAt, named_so};
 ghost use Rattle.just_bench_values.specs.Values.{bound};
 
 use just_data::{BorrowedText, Sequence, Text};

@@ -2,7 +2,7 @@
 ghost use Rattle.std.specs.Prelude.{◌≡◌, List, [], OnOk};
 ghost use Rattle.std.specs.Borrow.{Bor};
 ghost use Rattle.just_names.specs.Name.{text_of_name};
-ghost use Rattle.just_bench_values.specs.Tasks.{Advances, Goes, Sends, opened, variable_in, with_call, with_sum, with_task};
+ghost use Rattle.just_bench_values.specs.loops.Tasks.{Advances, Goes, Sends, opened, variable_in, with_call, with_sum, with_task};
 ghost use Rattle.just_parts.specs.Told.{IsToldIn};
 
 use crate::buffer::Buffer;

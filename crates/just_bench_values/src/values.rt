@@ -4,7 +4,7 @@ ghost use Rattle.just_parts.specs.Evaluator.{FaultsAt, functions_by_name, values
 ghost use Rattle.just_parts.specs.Told.{IsPlaceIn, IsToldIn};
 ghost use Rattle.just_ast_references.specs.Numbers.{bare};
 ghost use Rattle.just_bench_values.specs.Lookup.{TellsOutcome, constant_values, functions_in, local_values};
-ghost use Rattle.just_bench_values.specs.Tasks.{IsPlaceOfOne, outcome_of};
+ghost use Rattle.just_bench_values.specs.loops.Tasks.{IsPlaceOfOne, outcome_of};
 ghost use Rattle.just_bench_values.specs.Values as spec;
 
 use crate::lookup::{Arguments, Constants, Functions, Locals};

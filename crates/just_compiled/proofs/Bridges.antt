@@ -29,7 +29,8 @@ use Rattle.just_module_headers.proofs.Holding.{some_value}
 use Rattle.just_module_headers.proofs.Alike.{Outline, at as outline_at, defaults_alike, dependencies_alike, depends_by_alike, limits_alike, many, name as name_at, rules_alike, same_names}
 use Rattle.just_module_recipes.specs.Linked.{AreSettled, HasNumber, of_far as far_number, of_near as near_number}
 use Rattle.just_module_recipes.specs.Links as links
-use Rattle.just_module_recipes.specs.Links.{Around, BreaksLinks, Disables, HasParameters, PathLeadsTo, IsNameOf, Stands, Takes, by_recipe, by_walk, far, found_by, links_by, near, of_far, of_near, told_by}
+use Rattle.just_module_recipes.specs.Links.{Around, BreaksLinks, Disables, HasParameters, PathLeadsTo, IsNameOf, Stands, Takes, by_recipe, by_walk, far, found_by, near, of_far, of_near}
+use Rattle.just_module_recipes.specs.loops.Links.{links_by, told_by}
 use Rattle.just_module_tree.specs.Modules.{Forest, Module, contents_of}
 use Rattle.just_module_tree.specs.Standing as trees
 use Rattle.just_module_tree.specs.Standing.{BreaksDependencies, DisabledBy, EndsWell, HasTargetInTree, LeadsSomewhere, WalkEnd, StandsInTree, TakesIn, by_disabled, follow, kept_in, leads, links_in, through_absent, to_module, to_recipe, told_in}

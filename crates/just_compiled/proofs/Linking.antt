@@ -10,7 +10,8 @@ use Rattle.just_module_contents.specs.Standing.{AreStanding}
 use Rattle.just_ast_expressions.specs.declared.expression.Expression.{Expression}
 use Rattle.just_module_recipes.specs.Completing.{completion}
 use Rattle.just_module_recipes.specs.Linked.{AreLinked, HasDisabled, HasNumber, IsLinked, IsMadeAt, IsMadeOf}
-use Rattle.just_module_recipes.specs.Links.{Around, Disables, Stands, around_of}
+use Rattle.just_module_recipes.specs.Links.{Around, Disables, Stands}
+use Rattle.just_module_recipes.specs.loops.Links.{around_of}
 use Rattle.just_module_tree.specs.Modules.{Forest, Module, path_of}
 use Rattle.just_module_tree.specs.Standing.{DisabledBy, StandsInTree}
 use Rattle.just_names.specs.Texts.{Text}
@@ -23,7 +24,8 @@ use Rattle.just_paths.specs.declared.modulepath.Modulepath.{Modulepath}
 use Rattle.just_recipe.specs.declared.dependency.Dependency.{Dependency}
 use Rattle.just_recipe.specs.declared.dependency.UnresolvedDependency.{UnresolvedDependency}
 use Rattle.just_recipe.specs.declared.recipe.Recipe.{Recipe}
-use Rattle.just_compiled.specs.Analysis.{HasLinks, completion_of}
+use Rattle.just_compiled.specs.Analysis.{completion_of}
+use Rattle.just_compiled.specs.loops.Analysis.{HasLinks}
 use Rattle.just_compiled.specs.Justfiles.{AreCompiled, Built, HasNumberIn, IsCompiled, Made, kept_by, none, one, recipes_of_all, value_by}
 use Rattle.just_compiled.proofs.Agreeing.{Meets}
 use Rattle.just_compiled.proofs.Bridges.{found_more, from_tree, number_on, stands_back, stands_on, to_tree}

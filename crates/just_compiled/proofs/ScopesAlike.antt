@@ -16,7 +16,7 @@ use Rattle.just_ast_definitions.specs.declared.line.Line.{Line}
 use Rattle.just_ast_definitions.specs.declared.parameter.Parameter.{Parameter}
 use Rattle.just_ast_expressions.specs.declared.expression.Expression.{Expression}
 use Rattle.just_ast_expressions.specs.declared.settings.Settings.{Settings}
-use Rattle.just_ast_references.specs.Body.{Mention, mention_of}
+use Rattle.just_ast_references.specs.Mentions.{Mention, mention_of}
 use Rattle.just_ast_references.specs.Numbers.{with_numbers}
 use Rattle.just_ast_references.proofs.Renumbering.{keeps_references, numbers_stay}
 use Rattle.just_names.specs.Name.{text_of_name}

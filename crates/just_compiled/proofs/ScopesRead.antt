@@ -2,7 +2,7 @@
 use Rattle.std.proofs.Common.{◌≡◌, ◌↔◌, ◌∙◌, Bool, List, map, sym, ap, subst}
 use Rattle.std.specs.List.{Contains}
 use Rattle.just_ast_expressions.specs.declared.expression.Expression.{Expression}
-use Rattle.just_ast_references.specs.Body.{Calls, Mention, Names}
+use Rattle.just_ast_references.specs.Mentions.{Calls, Mention, Names}
 use Rattle.just_graph.proofs.Members.{In, contained, from_map, in_map, is_in}
 use Rattle.just_names.specs.Texts.{Text}
 use Rattle.just_names.specs.declared.number.Number.{Number}

@@ -5,9 +5,10 @@ use Rattle.std.specs.List.{Contains}
 use Rattle.std.specs.Option.{option_map, option_or}
 use Rattle.std.proofs.lemmas.List.Folds.{find-append}
 use Rattle.just_ast_expressions.specs.declared.expression.Expression.{Expression}
-use Rattle.just_compiled.specs.Analysis.{HasLinks, recipe_table}
+use Rattle.just_compiled.specs.Analysis.{recipe_table}
+use Rattle.just_compiled.specs.loops.Analysis.{HasLinks}
 use Rattle.just_compiled.specs.Labelled.{by_name, labelled_as, with_labels}
-use Rattle.just_compiled.specs.Settled.{IsSettled, settled}
+use Rattle.just_compiled.specs.loops.Settled.{IsSettled, settled}
 use Rattle.just_compiled.proofs.ByName.{names_sorted}
 use Rattle.just_compiled.proofs.Closing.{named_in}
 use Rattle.just_compiled.proofs.RecipeKeys.{found_among, key_found}
@@ -24,7 +25,8 @@ use Rattle.just_module_contents.specs.Recipes.{name_of, recipe_at}
 use Rattle.just_module_contents.specs.Resolved.{number_at}
 use Rattle.just_module_contents.proofs.StandingOnes.{standing_in}
 use Rattle.just_module_recipes.specs.Linked.{AreDisabled, AreSettled, disabled_table, falls as fallen, name_of_disabled, none as none_disabled, stands as not_disabled}
-use Rattle.just_module_recipes.specs.Links.{Stands, around, around_of}
+use Rattle.just_module_recipes.specs.Links.{Stands, around}
+use Rattle.just_module_recipes.specs.loops.Links.{around_of}
 use Rattle.just_names.specs.Name.{text_of_name}
 use Rattle.just_names.specs.Texts.{Text}
 use Rattle.just_parts.specs.Syntax.{SyntaxAnswers}

@@ -1,5 +1,5 @@
 -- What a module's recipes are compiled to.
-use Rattle.std.specs.Prelude.{◌≡◌, ◌++◌, Bool, List, [], map, false, Option, None}
+use Rattle.std.specs.Prelude.{◌≡◌, Bool, List, [], map, false, Option, None}
 use Rattle.just_names.specs.Name.{text_of_name}
 use Rattle.just_names.specs.Texts.{Text}
 use Rattle.just_names.specs.declared.number.Number.{Number}
@@ -22,13 +22,8 @@ use Rattle.just_recipe.specs.declared.recipe.Recipe.{Recipe}
 use Rattle.just_justfile.specs.declared.justfile.RecipeKey.{RecipeKey}
 use Rattle.just_compiled.specs.Labelled.{label_in}
 use Rattle.just_module_contents.specs.Contents.{Contents}
-use Rattle.just_paths.specs.declared.modulepath.Modulepath.{Modulepath}
-use Rattle.just_module_contents.specs.Standing.{AreStanding}
 use Rattle.just_module_recipes.specs.Completing.{Completion, completion}
 use Rattle.just_module_aliases.specs.Aliased.{aliases_of, targets_of}
-use Rattle.just_module_recipes.specs.Linked.{AreLinked, HasDisabled, HasNumber}
-use Rattle.just_module_recipes.specs.Links.{Disables, Stands, around_of}
-use Rattle.just_recipe.specs.declared.dependency.Dependency.{Dependency}
 use Rattle.just_module_contents.specs.Defaults.{IsDefaultAmong}
 
 -- the key of a recipe: its name and its number
@@ -54,12 +49,6 @@ completion_in value answers assignments functions overridden settings =
 -- in a module that is compiled
 abbrev pub completion_of : (Expression → Option (List Text)) → SyntaxAnswers → Justfile → Completion
 completion_of value answers j = completion_in value answers (out-Justfile j).assignments (out-Justfile j).functions (has_number (out-Justfile j).overridden) (out-Justfile j).settings
-
--- What the kept recipes of a module are linked to, over the modules that its justfile has, where these recipes are held before: those that stand are completed and added, and the others are in its table of what is disabled.
-pub record HasLinks (value : Expression → Option (List Text)) (answers : SyntaxAnswers) (recipes : List (Recipe UnresolvedDependency)) (before : List (Recipe Dependency)) (path : Modulepath) (added : List (Recipe Dependency)) (standing : List (Recipe UnresolvedDependency)) (j : Justfile) : Type 0 where
-  pub linked : AreLinked (Stands recipes (around_of j before)) (HasNumber recipes (around_of j before)) (completion_of value answers j) (out-Justfile j).settings.lists (before ++ added) recipes path added
-  pub stand : AreStanding (Stands recipes (around_of j before)) recipes standing
-  pub disabled : HasDisabled (Disables recipes (around_of j before)) recipes (out-Justfile j).disabled_recipes
 
 -- a justfile has no label
 abbrev pub HasNoLabel : Justfile → Type 0

@@ -2,5 +2,5 @@ pub mod Analysis
 pub mod Evaluated
 pub mod Justfiles
 pub mod Labelled
-pub mod Settled
 pub mod Variables
+pub mod loops

@@ -33,8 +33,9 @@ use Rattle.just_compiled.specs.Justfiles.{AreCompiled, Built, Made, recipes_of_a
 use Rattle.just_module_contents.specs.declared.labels.Label.{Label}
 use Rattle.just_module_tree.specs.Modules.{AreModules, Empty, Forest, Heading, IsHeading, Module, Tree, no_module}
 use Rattle.just_module_headers.specs.Reading.{Reading, Submodule, reading_of}
-use Rattle.just_module_headers.specs.OfPlaces.{RepeatsNames, labels_of_place, namings_of_place}
-use Rattle.just_compiler.specs.Steps.{BreaksInOrder, CanCompileAll, HaveCompiled, BreaksOver, HaveCompiledSoFar, not_yet, so_far}
+use Rattle.just_module_headers.specs.OfPlaces.{RepeatsNames, namings_of_place}
+use Rattle.just_module_headers.specs.loops.OfPlaces.{labels_of_place}
+use Rattle.just_compiler.specs.loops.Steps.{BreaksInOrder, CanCompileAll, HaveCompiled, BreaksOver, HaveCompiledSoFar, not_yet, so_far}
 use Rattle.just_module_headers.specs.declared.files.Files.{Files}
 use Rattle.just_module_headers.specs.declared.files.Rows.{Rows}
 use Rattle.just_module_headers.specs.declared.join.Joined.{Joined}

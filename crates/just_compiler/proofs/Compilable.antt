@@ -16,10 +16,11 @@ use Rattle.just_module_headers.specs.Files.{ArePlaced, AreRows, asts_in}
 use Rattle.just_module_headers.specs.Joined.{AreJoined, IsJoined}
 use Rattle.just_module_headers.specs.Reading.{Submodule}
 use Rattle.just_module_contents.specs.Contents.{texts_of_named}
-use Rattle.just_module_headers.specs.OfPlaces.{labels_of_place, names_of_place, namings_of_place}
+use Rattle.just_module_headers.specs.OfPlaces.{namings_of_place}
+use Rattle.just_module_headers.specs.loops.OfPlaces.{labels_of_place, names_of_place}
 use Rattle.just_module_headers.proofs.ModuleNames.{modules_different}
 use Rattle.just_compiled.proofs.Closing.{own_joined}
-use Rattle.just_compiler.specs.Steps.{CanCompile, CanCompileAll}
+use Rattle.just_compiler.specs.loops.Steps.{CanCompile, CanCompileAll}
 use Rattle.just_module_headers.specs.declared.files.Files.{Files}
 use Rattle.just_module_headers.specs.declared.files.Rows.{Rows}
 use Rattle.just_module_headers.specs.declared.join.Joined.{Joined}

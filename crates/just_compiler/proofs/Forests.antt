@@ -18,7 +18,8 @@ use Rattle.just_names.specs.Texts.{Text}
 use Rattle.just_parts.specs.Items.{Ast}
 use Rattle.just_justfile.specs.declared.justfile.Justfile.{Justfile, out-Justfile, out-roll-Justfile}
 use Rattle.just_module_contents.specs.Defaults.{IsDefaultAmong}
-use Rattle.just_compiled.specs.Analysis.{IsOf, HasLinks, completion_in}
+use Rattle.just_compiled.specs.Analysis.{IsOf, completion_in}
+use Rattle.just_compiled.specs.loops.Analysis.{HasLinks}
 use Rattle.just_module_headers.specs.Files.{ArePlaced, AreRows}
 use Rattle.just_module_headers.specs.Joined.{IsJoined}
 use Rattle.just_module_variables.specs.Documented.{AreDocumented, HasDoc}
@@ -31,8 +32,8 @@ use Rattle.just_module_contents.specs.Contents.{Contents}
 use Rattle.just_module_contents.specs.Kept.{kept_recipes}
 use Rattle.just_module_contents.specs.Recipes.{recipes_of}
 use Rattle.just_module_headers.specs.Reading.{Submodule, reading_of}
-use Rattle.just_module_headers.specs.OfPlaces.{contents_of_place, labels_of_place, recipes_of_place}
-use Rattle.just_compiler.specs.Steps.{IsCompiledAt, path_at, path_in, BreaksOver, kept_of_place, made_before, names_of_labels, value_at}
+use Rattle.just_module_headers.specs.loops.OfPlaces.{contents_of_place, labels_of_place, recipes_of_place}
+use Rattle.just_compiler.specs.loops.Steps.{IsCompiledAt, path_at, path_in, BreaksOver, kept_of_place, made_before, names_of_labels, value_at}
 use Rattle.just_module_headers.specs.declared.files.Files.{Files}
 use Rattle.just_module_contents.specs.declared.labels.Label.{Label}
 use Rattle.just_module_contents.specs.declared.notes.Notes.{Notes}
@@ -51,7 +52,8 @@ use Rattle.just_ast_expressions.specs.declared.expression.Expression.{Expression
 use Rattle.just_names.specs.Index.{AreDifferent}
 use Rattle.just_module_recipes.specs.Linked.{AreLinked, AreSettled, HasDisabled, HasNumber}
 use Rattle.just_module_contents.specs.Standing.{AreStanding}
-use Rattle.just_module_recipes.specs.Links.{Around, Disables, Stands, around, around_of, links_by}
+use Rattle.just_module_recipes.specs.Links.{Around, Disables, Stands, around}
+use Rattle.just_module_recipes.specs.loops.Links.{around_of, links_by}
 use Rattle.just_errors.specs.Causes.{Cause, Keeps}
 use Rattle.just_recipe.specs.declared.dependency.Dependency.{Dependency}
 use Rattle.just_module_contents.specs.Groups.{KeepsContents}

@@ -7,7 +7,7 @@ use Rattle.just_module_contents.specs.Constants.{BreaksDocs, Evaluated, IsEvalua
 use Rattle.just_module_contents.specs.Contents.{Contents}
 use Rattle.just_module_contents.specs.Groups.{BreaksBodiesAndDocs, Breaks, BreaksContents, KeepsBefore, KeepsContents, Links, OfAliases, OfBodies, OfConstants, OfDependencies, OfExpressions, OfHeaders, OfNames, OfRecipes, in_docs, in_bodies as in_body}
 use Rattle.just_module_contents.specs.Rules.{BreaksBodies, WhereEvaluated, under}
-use Rattle.just_module_recipes.specs.Broken.{BreaksRecipes, in_aliases, in_bodies, in_dependencies, in_recipes}
+use Rattle.just_module_recipes.specs.loops.Broken.{BreaksRecipes, in_aliases, in_bodies, in_dependencies, in_recipes}
 
 module _ (layers : Layers) (links : Links) (m : Contents) (earlier : KeepsBefore layers links OfBodies m) where
   before_dependencies : Keeps (Breaks layers links OfBodies m) → KeepsBefore layers links OfDependencies m

@@ -16,13 +16,14 @@ use Rattle.just_module_headers.specs.Joined.{IsJoined}
 use Rattle.just_module_tree.specs.Modules.{Heading, IsHeading, Module, a_module, contents_of, no_module}
 use Rattle.just_module_headers.specs.Reading.{Reading, reading_of}
 use Rattle.just_module_contents.specs.Rules.{BreaksNamings, of_named}
-use Rattle.just_module_headers.specs.OfPlaces.{contents_of_place, namings_of_place}
+use Rattle.just_module_headers.specs.OfPlaces.{namings_of_place}
+use Rattle.just_module_headers.specs.loops.OfPlaces.{contents_of_place}
 use Rattle.just_module_headers.specs.declared.files.Files.{Files}
 use Rattle.just_module_headers.specs.declared.files.Rows.{Rows}
 use Rattle.just_module_headers.specs.declared.join.Joined.{Joined}
 use Rattle.just_module_headers.proofs.Alike.{AreAlikeContents}
 use Rattle.just_module_headers.proofs.FilePlaces.{says}
-use Rattle.just_compiler.specs.Steps.{path_at, path_in}
+use Rattle.just_compiler.specs.loops.Steps.{path_at, path_in}
 use Rattle.just_module_tree.proofs.ModulePlaces.{file_inside, module_of, tree_at}
 use Rattle.just_module_tree.proofs.Ready.{aliases_are, namings_are, docs_are, functions_are, lists_are, names_are, recipes_are, sets_are, unexports_are, variables_are}
 

@@ -1,12 +1,13 @@
 -- What a module that is analyzed is linked to, by what its justfile has.
 use Rattle.std.proofs.Common.{◌≡◌, Bool, List, ◌++◌, Option, sym, ap, subst}
-use Rattle.just_compiler.specs.Parts.{IsAnalyzedFrom, around_by, completion_here, value_of}
+use Rattle.just_compiler.specs.loops.Parts.{IsAnalyzedFrom, around_by, completion_here, value_of}
 use Rattle.just_module_checks.specs.declared.checks.Checked.{Checked}
 use Rattle.just_module_assembly.specs.declared.justfiles.Surroundings.{Surroundings}
 use Rattle.just_names.specs.Texts.{Text}
 use Rattle.just_ast_expressions.specs.declared.expression.Expression.{Expression}
 use Rattle.just_ast_expressions.specs.declared.settings.Settings.{Settings}
-use Rattle.just_compiled.specs.Analysis.{HasLinks, completion_in, completion_of}
+use Rattle.just_compiled.specs.Analysis.{completion_in, completion_of}
+use Rattle.just_compiled.specs.loops.Analysis.{HasLinks}
 use Rattle.just_compiled.specs.Justfiles.{Made}
 use Rattle.just_errors.specs.Causes.{Keeps}
 use Rattle.just_justfile.specs.declared.justfile.Justfile.{Justfile, out-Justfile}
@@ -16,10 +17,11 @@ use Rattle.just_module_contents.specs.Definitions.{contents_in, recipes_in}
 use Rattle.just_module_contents.specs.Kept.{kept_recipes}
 use Rattle.just_module_contents.specs.Standing.{AreStanding}
 use Rattle.just_module_contents.specs.declared.notes.Notes.{Notes}
-use Rattle.just_module_recipes.specs.Broken.{BreaksRecipes}
+use Rattle.just_module_recipes.specs.loops.Broken.{BreaksRecipes}
 use Rattle.just_module_recipes.specs.Completing.{Completion}
 use Rattle.just_module_recipes.specs.Linked.{AreLinked, HasDisabled, HasNumber}
-use Rattle.just_module_recipes.specs.Links.{Around, Disables, Stands, around, around_of, links_by}
+use Rattle.just_module_recipes.specs.Links.{Around, Disables, Stands, around}
+use Rattle.just_module_recipes.specs.loops.Links.{around_of, links_by}
 use Rattle.just_parts.specs.Items.{Ast}
 use Rattle.just_module_variables.specs.Constants.{evaluated_in}
 use Rattle.just_parts.specs.Layers.{Layers}

@@ -16,7 +16,8 @@ use Rattle.just_module_headers.specs.Files.{ArePlaced, AreRows, asts_in}
 use Rattle.just_module_headers.specs.Joined.{IsJoined}
 use Rattle.just_compiled.specs.Labelled.{with_labels, by_name, slot}
 use Rattle.just_compiled.specs.Justfiles.{AreCompiled, Built, contents_read, notes_said, recipes_in, recipes_of_all}
-use Rattle.just_module_assembly.specs.Noted.{notes_from, notes_of_place}
+use Rattle.just_module_assembly.specs.Noted.{notes_from}
+use Rattle.just_module_assembly.specs.loops.Noted.{notes_of_place}
 use Rattle.just_module_tree.specs.Modules.{Forest, Heading, Module, headings_in, AreModules, IsHeading, IsModule, a_module, contents_of, heading_of, no_module}
 use Rattle.just_module_contents.specs.Constants.{Evaluated}
 use Rattle.just_module_contents.specs.Contents.{Contents}
@@ -24,8 +25,8 @@ use Rattle.just_module_contents.specs.Named.{alias_by, contents_from, function_b
 use Rattle.just_module_contents.specs.Said.{said_in}
 use Rattle.just_module_contents.specs.Recipes.{recipes_of}
 use Rattle.just_module_headers.specs.Reading.{Submodule, items_in, Reading, reading_of}
-use Rattle.just_module_headers.specs.OfPlaces.{contents_of_place, labels_of_place}
-use Rattle.just_compiler.specs.Steps.{BreaksOver, names_of_labels}
+use Rattle.just_module_headers.specs.loops.OfPlaces.{contents_of_place, labels_of_place}
+use Rattle.just_compiler.specs.loops.Steps.{BreaksOver, names_of_labels}
 use Rattle.just_module_headers.specs.declared.files.Files.{Files}
 use Rattle.just_module_contents.specs.declared.labels.Label.{Label}
 use Rattle.just_module_contents.specs.declared.notes.Notes.{Notes}
@@ -38,11 +39,12 @@ use Rattle.just_module_tree.proofs.Ready.{labels_are}
 use Rattle.just_parts.specs.Layers.{Given, Layers, layers_at}
 use Rattle.just_module_contents.specs.Labels.{doc_by}
 use Rattle.just_names.specs.Index.{AreDifferent}
-use Rattle.just_module_recipes.specs.Links.{Around, around, links_by, told_by}
+use Rattle.just_module_recipes.specs.Links.{Around, around}
+use Rattle.just_module_recipes.specs.loops.Links.{links_by, told_by}
 use Rattle.just_module_contents.specs.Groups.{BreaksContents, Group}
 use Rattle.just_errors.specs.Causes.{Cause}
 use Rattle.just_recipe.specs.declared.dependency.Dependency.{Dependency}
-use Rattle.just_compiled.specs.Settled.{IsSettled}
+use Rattle.just_compiled.specs.loops.Settled.{IsSettled}
 use Rattle.just_module_tree.specs.Groups.{KeepsModules, BreaksModules, in_module, HasGround}
 use Rattle.just_compiled.proofs.Agreeing.{Meets}
 use Rattle.just_recipe.specs.declared.recipe.Recipe.{Recipe}

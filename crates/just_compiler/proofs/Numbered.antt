@@ -2,7 +2,7 @@
 use Rattle.std.proofs.Common.{◌≡◌, Bool, List, Result, Ok, Err, IfOk, subst, subst₂}
 use Rattle.std.specs.HashMap.{HashMap, get}
 use Rattle.std.specs.Str.{bytes_eq}
-use Rattle.just_compiler.specs.Parts.{AreLinkedOver}
+use Rattle.just_compiler.specs.loops.Parts.{AreLinkedOver}
 use Rattle.just_ast_definitions.specs.declared.assignment.Assignment.{Assignment}
 use Rattle.just_errors.specs.declared.error.Error.{Error}
 use Rattle.just_module_contents.specs.Definitions.{recipes_in}

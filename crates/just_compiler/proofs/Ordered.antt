@@ -20,7 +20,7 @@ use Rattle.just_justfile.specs.declared.justfile.Justfile.{Justfile}
 use Rattle.just_compiled.specs.Labelled.{by_name, slot, with_labels}
 use Rattle.just_module_contents.specs.declared.labels.Label.{Label}
 use Rattle.just_compiled.specs.Justfiles.{Made}
-use Rattle.just_compiled.specs.Settled.{AreInnerSettled, IsSettled}
+use Rattle.just_compiled.specs.loops.Settled.{AreInnerSettled, IsSettled}
 use Rattle.just_compiled.proofs.ByName.{names_sorted}
 use Rattle.just_compiled.proofs.Settling.{module_settled, named_settled, settled_more}
 use Rattle.just_module_contents.proofs.Keeping.{kept_number}
@@ -28,8 +28,8 @@ use Rattle.just_module_contents.specs.Resolved.{unresolved_numbers}
 use Rattle.just_module_contents.specs.Recipes.{no_recipe, recipe_at}
 use Rattle.just_names.specs.declared.number.Number.{Number}
 use Rattle.just_recipe.specs.declared.dependency.UnresolvedDependency.{UnresolvedDependency}
-use Rattle.just_module_headers.specs.OfPlaces.{recipes_of_place}
-use Rattle.just_compiler.specs.Steps.{BreaksInOrder, BreaksOver, CanCompileAll, CompilesPlace, HaveCompiled, HaveCompiledSoFar, IsCompiledAt, kept_of_place, made_before, not_yet, so_far, value_at}
+use Rattle.just_module_headers.specs.loops.OfPlaces.{recipes_of_place}
+use Rattle.just_compiler.specs.loops.Steps.{BreaksInOrder, BreaksOver, CanCompileAll, CompilesPlace, HaveCompiled, HaveCompiledSoFar, IsCompiledAt, kept_of_place, made_before, not_yet, so_far, value_at}
 use Rattle.just_module_headers.specs.declared.files.Files.{Files}
 use Rattle.just_module_headers.specs.declared.join.Joined.{Joined}
 use Rattle.just_parts.specs.Layers.{Given}

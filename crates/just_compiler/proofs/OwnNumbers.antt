@@ -15,11 +15,12 @@ use Rattle.just_module_contents.specs.Resolved.{AreNew, number_at, unresolved_nu
 use Rattle.just_module_contents.specs.Kept.{kept_recipes}
 use Rattle.just_module_contents.specs.Rules.{BreaksAliasTargets, BreaksBodies}
 use Rattle.just_module_contents.specs.Standing.{AreStanding, falls, none, stands}
-use Rattle.just_module_recipes.specs.Broken.{BreaksRecipes}
+use Rattle.just_module_recipes.specs.loops.Broken.{BreaksRecipes}
 use Rattle.just_module_recipes.proofs.Grounds.{recipes_kept}
 use Rattle.just_module_recipes.specs.Completing.{Completion}
 use Rattle.just_module_recipes.specs.Linked.{AddsLinked}
-use Rattle.just_module_recipes.specs.Links.{Around, BreaksAliases, BreaksLinks, BreaksStanding, HasTarget, Stands, links_by, of_defaults, of_targets}
+use Rattle.just_module_recipes.specs.Links.{Around, BreaksAliases, BreaksLinks, BreaksStanding, HasTarget, Stands, of_defaults, of_targets}
+use Rattle.just_module_recipes.specs.loops.Links.{links_by}
 use Rattle.just_names.specs.declared.number.Number.{Number}
 use Rattle.just_parts.specs.Layers.{Layers}
 use Rattle.just_paths.specs.declared.modulepath.Modulepath.{Modulepath}

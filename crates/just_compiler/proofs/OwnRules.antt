@@ -3,7 +3,7 @@ use Rattle.std.proofs.Common.{◌≡◌, ◌⊎◌, ◌<◌, ℕ, List, ◌++◌
 use Rattle.std.specs.List.{Contains}
 use Rattle.std.specs.Prelude.{flat_map}
 use Rattle.std.proofs.lemmas.List.Elements.{Contains-get_or}
-use Rattle.just_compiler.specs.Parts.{TellsChecked}
+use Rattle.just_compiler.specs.loops.Parts.{TellsChecked}
 use Rattle.just_module_checks.specs.declared.checks.Checked.{Checked}
 use Rattle.just_ast_expressions.specs.declared.expression.Expression.{Expression}
 use Rattle.just_errors.specs.Causes.{Cause, Keeps}
@@ -17,7 +17,7 @@ use Rattle.just_module_contents.specs.Recipes.{no_recipe, recipe_at}
 use Rattle.just_module_contents.specs.Rules.{BreaksBodies}
 use Rattle.just_module_contents.specs.Standing.{InStanding, in_recipe, of_standing}
 use Rattle.just_module_contents.proofs.Keeping.{kept_in}
-use Rattle.just_module_recipes.specs.Broken.{in_dependencies, in_recipes}
+use Rattle.just_module_recipes.specs.loops.Broken.{in_dependencies, in_recipes}
 use Rattle.just_module_recipes.specs.Completed.{TellsLinks, of_links, of_own}
 use Rattle.just_module_recipes.specs.Links.{Around}
 use Rattle.just_module_variables.specs.Constants.{CoversAll}

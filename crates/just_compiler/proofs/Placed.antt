@@ -6,7 +6,7 @@ use Rattle.std.specs.HashMap.{get}
 use Rattle.just_module_variables.specs.Constants.{CoversAll, evaluated_in}
 use Rattle.just_module_contents.specs.Constants.{constant_expressions}
 use Rattle.just_parts.specs.Evaluator.{values_of}
-use Rattle.just_compiler.specs.Parts.{IsCheckedCovered}
+use Rattle.just_compiler.specs.loops.Parts.{IsCheckedCovered}
 use Rattle.just_module_variables.specs.Documented.{AreDocumented}
 use Rattle.just_module_variables.specs.Variables.{AreVariablesOf, HasNumbers}
 use Rattle.just_errors.specs.Causes.{Cause, Keeps}
@@ -19,13 +19,13 @@ use Rattle.just_module_contents.specs.Groups.{BreaksContents, KeepsBefore, Links
 use Rattle.just_module_contents.specs.Named.{contents_from, recipes_by, said_from}
 use Rattle.just_module_contents.specs.Resolved.{unresolved_numbers}
 use Rattle.just_graph.proofs.Members.{In, contained, from_map, in_flat, in_map, is_in}
-use Rattle.just_module_headers.specs.OfPlaces.{contents_of_place, labels_of_place, recipes_of_place}
+use Rattle.just_module_headers.specs.loops.OfPlaces.{contents_of_place, labels_of_place, recipes_of_place}
 use Rattle.just_module_headers.specs.declared.files.Files.{Files}
 use Rattle.just_module_headers.specs.declared.join.Joined.{Joined}
-use Rattle.just_module_recipes.specs.Broken.{BreaksRecipes}
+use Rattle.just_module_recipes.specs.loops.Broken.{BreaksRecipes}
 use Rattle.just_module_checks.specs.Checked.{IsChecked, no_links}
 use Rattle.just_compiled.specs.Evaluated.{IsEvaluatedTo}
-use Rattle.just_compiler.specs.Steps.{BreaksOver, BreaksPlace, KeepsPlace, names_of_labels, path_at, path_in}
+use Rattle.just_compiler.specs.loops.Steps.{BreaksOver, BreaksPlace, KeepsPlace, names_of_labels, path_at, path_in}
 use Rattle.just_module_checks.specs.declared.checks.Checked.{Checked}
 use Rattle.just_module_checks.proofs.GroupGrounds.{before_any, broken_any}
 use Rattle.just_compiler.proofs.Grounds.{all_kept, recipes_broken}

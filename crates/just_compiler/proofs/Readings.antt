@@ -20,7 +20,8 @@ use Rattle.just_ast_items.specs.declared.item.Item.TheVariants as item
 use Rattle.just_paths.specs.declared.modulepath.Modulepath.{Modulepath}
 use Rattle.just_parts.proofs.AstKeys.{key_same}
 use Rattle.just_parts.proofs.Edges.{bare_twice}
-use Rattle.just_loader.specs.Keys.{IsLeastFileDepth, ast_key, items_at, key_of_ast}
+use Rattle.just_loader.specs.Keys.{IsLeastFileDepth, ast_key, items_at}
+use Rattle.just_loader.specs.loops.Keys.{key_of_ast}
 use Rattle.just_loader.specs.Loaded.{IsLoaded, with_path}
 use Rattle.just_loader.specs.Reached.{World}
 use Rattle.just_loader.proofs.HeldKeys.{closed, held_key, held_path, key_held, path_led, said}

@@ -2,7 +2,6 @@
 use Rattle.std.specs.Prelude.{◌≡◌, ◌<◌, ◌++◌, ℕ, List, [], ◌∷◌, map, slice_get, Option, Some}
 use Rattle.std.specs.HashMap.{HashMap, get}
 use Rattle.std.specs.List.{All, Contains}
-use Rattle.just_compiler.specs.declared.compiling.Gathered.{Gathered}
 use Rattle.just_names.specs.declared.number.Number.{Number}
 use Rattle.just_graph.specs.Unfolded.{AreApart}
 use Rattle.just_parts.specs.Asts.{AstKey, same_ast_key}
@@ -49,10 +48,6 @@ pub record IsAnalyzed (given : Given) (asts : AstKey → Option Ast) (loaded : L
   pub placed : All (IsPlaced justfile) recipes
   pub tables : HaveTables justfile
   pub numbers : HaveOwnNumbers justfile
-
--- the same of the module at a path, with its own file and a label
-abbrev pub AnalyzesAt : {H : Type 0} → Given → HashMap AstKey Ast H → List Text → Modulepath → Text → Label → Justfile × Gathered → Type 0
-AnalyzesAt given asts loaded path root label made = IsAnalyzed given (get same_ast_key asts) loaded (heading (path, root) label) made.0 made.1.recipes made.1.overridden.items
 
 -- What an analysis answers of the module at a path, with its own file and a label: it and those in it are analyzed, and the values that override variables are added one after another to what was overridden; or one of them breaks a rule.
 pub record Analyzes {G H : Type 0} (given : Given) (asts : HashMap AstKey Ast H) (loaded : List Text) (path : Modulepath) (root : Text) (label : Label) (old new : HashMap Number Text G) (made : Justfile × List (Recipe Dependency)) : Type 0 where

@@ -1,6 +1,5 @@
 pub mod Analyzed
 pub mod Compiled
-pub mod Parts
 pub mod Readings
 pub mod Rules
-pub mod Steps
+pub mod loops

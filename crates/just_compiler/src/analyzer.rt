@@ -4,7 +4,8 @@ ghost use Rattle.std.specs.Prelude.{◌≡◌, IfErr, IfOk, IsSome, None};
 ghost use Rattle.std.specs.HashMap.{get};
 ghost use Rattle.just_parts.specs.Asts.{same_ast_key};
 ghost use Rattle.just_module_headers.specs.Analyzable.{AreAnalyzable};
-ghost use Rattle.just_compiler.specs.Analyzed.{AnalyzesAt, TellsAnalyzed};
+ghost use Rattle.just_compiler.specs.Analyzed.{TellsAnalyzed};
+ghost use Rattle.just_compiler.specs.loops.Analyzed.{AnalyzesAt};
 ghost use Rattle.just_parts.specs.Layers.{given_by};
 
 use crate::compiling::{Gathered, compile_in_order};

@@ -12,13 +12,13 @@ ghost use Rattle.just_compiled.specs.Labelled.{slot};
 ghost use Rattle.just_parts.specs.Layers.{given_by, layers_at};
 ghost use Rattle.just_module_contents.specs.Definitions.{contents_in, recipes_in};
 ghost use Rattle.just_module_contents.specs.Resolved.{AreNew, HasPriors, unresolved_numbers};
-ghost use Rattle.just_module_headers.specs.OfPlaces.{recipes_of_place};
+ghost use Rattle.just_module_headers.specs.loops.OfPlaces.{recipes_of_place};
 ghost use Rattle.just_module_contents.specs.Kept.{kept_recipes};
 ghost use Rattle.just_module_contents.specs.Named.{recipes_by};
 ghost use Rattle.just_module_recipes.specs.Linked.{AreSettled};
-ghost use Rattle.just_compiler.specs.Parts.{AreSurroundings, IsAnalyzedFrom, IsCheckedCovered, TellsChecked, around_by};
-ghost use Rattle.just_compiled.specs.Settled.{AreInnerSettled};
-ghost use Rattle.just_compiler.specs.Steps.{BreaksInOrder, BreaksOver, CanCompileAll, CompilesAt, FitsFiles, HaveCompiledAll, made_in};
+ghost use Rattle.just_compiler.specs.loops.Parts.{AreSurroundings, IsAnalyzedFrom, IsCheckedCovered, TellsChecked, around_by};
+ghost use Rattle.just_compiled.specs.loops.Settled.{AreInnerSettled};
+ghost use Rattle.just_compiler.specs.loops.Steps.{BreaksInOrder, BreaksOver, CanCompileAll, CompilesAt, FitsFiles, HaveCompiledAll, made_in};
 
 use crate::groups::add_recipes;
 use just_data::{Sequence, Shared, Text};

@@ -3,7 +3,7 @@
 
 ghost use Rattle.std.specs.Prelude.{◌≡◌, IfErr, IfOk, Some};
 ghost use Rattle.std.specs.List.{All};
-ghost use Rattle.just_compiler.specs.Parts.{AreLinkedIn, BreaksChecked, BreaksOwn, IsCheckedCovered, TellsChecked, around_by};
+ghost use Rattle.just_compiler.specs.loops.Parts.{AreLinkedIn, BreaksChecked, BreaksOwn, IsCheckedCovered, TellsChecked, around_by};
 ghost use Rattle.just_module_assembly.specs.Targets.{own_targets};
 ghost use Rattle.just_errors.specs.Causes.{Keeps, Reports};
 ghost use Rattle.just_graph.specs.Steps.{IsOnce};

@@ -1,5 +1,5 @@
 -- Parts of messages: counts of arguments, places in a file, lines, and the arguments of a command.
-use Rattle.std.specs.Prelude.{ℕ, Option, Some, None, Bool, ◌+◌, ◌-◌, ◌==◌, ◌&&◌, ◌||◌, nat_le, nat_lt, min, length, slice_range, List, [], ◌∷◌, ◌++◌, codes, decimal, if◌then◌else◌}
+use Rattle.std.specs.Prelude.{ℕ, Option, Some, None, Bool, ◌+◌, ◌-◌, ◌==◌, ◌&&◌, ◌||◌, nat_le, nat_lt, min, length, slice_range, List, [], ◌++◌, codes, decimal, if◌then◌else◌}
 use Rattle.std.specs.List.{count_by, flat_map}
 use Rattle.std.specs.Char.{encode_utf8}
 use Rattle.just_names.specs.Token.{Place}
@@ -44,11 +44,6 @@ before_in_line token =
 -- where a token stands: the column counts characters
 abbrev pub at_text : Place → List ℕ
 at_text token = token.path ++ (codes ":" ++ (place_text token.line ++ (codes ":" ++ place_text (characters (before_in_line token)))))
-
--- paths in backquotes, with commas between them
-abbrev pub listed_text : List (List ℕ) → List ℕ
-listed_text [] = []
-listed_text (path ∷ paths) = (codes "`" ++ (path ++ codes "`")) ++ flat_map (λ p. codes ", `" ++ (p ++ codes "`")) paths
 
 -- what names an option, as it is written in the words
 abbrev pub switch_text : Switch → List ℕ

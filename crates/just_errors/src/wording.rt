@@ -125,7 +125,7 @@ pub(crate) struct Listed<'a>(pub &'a [Text]);
 
 impl<'a> fmt::Display for Listed<'a> {
     ghost use Rattle.std.specs.Prelude.{Some};
-    ghost use Rattle.just_errors.specs.Wording.{listed_text};
+    ghost use Rattle.just_errors.specs.loops.Wording.{listed_text};
 
     ghost output = { λ listed. Some (listed_text listed.0.now) };
 

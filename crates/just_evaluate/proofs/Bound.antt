@@ -9,7 +9,7 @@ use Rattle.just_ast_expressions.specs.declared.scope.Scope.{Scope}
 use Rattle.just_names.specs.Name.{text_of_name}
 use Rattle.just_names.specs.Texts.{Text}
 use Rattle.just_parts.specs.Evaluator.{values_of}
-use Rattle.just_evaluate.specs.Bindings.{bound_behind}
+use Rattle.just_evaluate.specs.loops.Bindings.{bound_behind}
 use Rattle.just_evaluate.specs.Lines.{bound_in}
 use Rattle.just_evaluate.specs.declared.bindings.BoundVariable.{BoundVariable}
 

@@ -1,6 +1,5 @@
 pub mod Asked
-pub mod Bindings
 pub mod Destination
 pub mod Lines
-pub mod Steps
 pub mod Writing
+pub mod loops

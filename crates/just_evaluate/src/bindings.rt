@@ -5,7 +5,7 @@ ghost use Rattle.std.specs.List.{filter_map};
 ghost use Rattle.std.specs.Option.{option_copied};
 ghost use Rattle.std.specs.Str.{bytes_eq};
 ghost use Rattle.just_parts.specs.Evaluator.{values_of};
-ghost use Rattle.just_evaluate.specs.Bindings.{bound_behind};
+ghost use Rattle.just_evaluate.specs.loops.Bindings.{bound_behind};
 ghost use Rattle.just_evaluate.specs.Lines as spec;
 
 use just_data::{BorrowedText, Sequence, Text};

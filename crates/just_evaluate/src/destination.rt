@@ -3,7 +3,7 @@ ghost use Rattle.std.specs.Prelude.{◌≡◌, ◌≤◌, [], ◌∷◌, IfErr, 
 ghost use Rattle.std.specs.Option.{option_copied};
 ghost use Rattle.just_justfile.specs.Walks.{AreModulesOrdered};
 ghost use Rattle.just_evaluate.specs.Destination as spec;
-ghost use Rattle.just_evaluate.specs.Steps.{IsStepOrdered, destination_by};
+ghost use Rattle.just_evaluate.specs.loops.Steps.{IsStepOrdered, destination_by};
 
 use crate::evaluation_target::EvaluationTarget;
 use just_data::Text;

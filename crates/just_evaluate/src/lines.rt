@@ -1,6 +1,6 @@
 //! The lines that assign values.
 ghost use Rattle.std.specs.Prelude.{◌≡◌, ◌++◌, map, string_bytes, IfOk, OnOk};
-ghost use Rattle.just_evaluate.specs.Bindings.{bound_behind};
+ghost use Rattle.just_evaluate.specs.loops.Bindings.{bound_behind};
 ghost use Rattle.just_evaluate.specs.Lines as spec;
 
 use crate::bindings::BoundVariable;

@@ -24,7 +24,7 @@ use Rattle.just_run_layers.specs.Covering.{BindsParameters, binds, wanted_in}
 use Rattle.just_run_layers.specs.declared.context.Context.{Context}
 use Rattle.just_run_layers.specs.declared.held.Held.{Held}
 use Rattle.just_table.specs.Entries.{find}
-use Rattle.just_examples_values.specs.Bound.{BindsAll}
+use Rattle.just_examples_values.specs.loops.Bound.{BindsAll}
 
 number_itself : (n : Number) → same_number n n ≡ true
 number_itself n = nat_eq_equiv.refl n.0

@@ -1,16 +1,9 @@
 -- What holds of the modules and the values that are asked among.
-use Rattle.std.specs.Prelude.{◌≡◌, true, Some}
-use Rattle.just_ast_definitions.specs.declared.assignment.Assignment.{Assignment}
-use Rattle.just_ast_expressions.specs.declared.scope.Scope.{Scope}
 use Rattle.just_justfile.specs.declared.justfile.Justfile.{Justfile, out-Justfile}
 use Rattle.just_names.specs.Index.{texts_of_names}
-use Rattle.just_names.specs.Texts.{Text}
 use Rattle.just_parts.specs.Known.{Known, sources}
 use Rattle.just_parts.specs.Needs.{HaveNumbersApart}
 use Rattle.just_parts.specs.Reading.{IsEvaluationOrder}
-use Rattle.just_run_layers.specs.Covering.{binds}
-use Rattle.just_run_layers.specs.declared.context.Context.{Context}
-use Rattle.just_table.specs.Entries.{find}
 
 -- what the tables of a module say
 abbrev pub tables_of : Justfile → Known
@@ -23,7 +16,3 @@ IsInOrder j = IsEvaluationOrder (tables_of j) (texts_of_names (out-Justfile j).e
 -- no two of its variables have one number
 abbrev pub TellApart : Justfile → Type 0
 TellApart j = HaveNumbersApart (tables_of j)
-
--- a scope binds each variable of a module
-abbrev pub BindsAll : Context → Scope → Type 0
-BindsAll context scope = (name : Text) (a : Assignment) → find name context.assignments.now ≡ Some a → binds scope a.number ≡ true

@@ -1,7 +1,8 @@
 //! What is answered, by the name of a call.
 ghost use Rattle.just_parts.specs.Needs.{HaveNumbersApart};
 ghost use Rattle.just_run_layers.specs.Covering.{HasEvaluationOrder, module_of};
-ghost use Rattle.just_examples_values.specs.Bound.{BindsAll, IsInOrder, TellApart};
+ghost use Rattle.just_examples_values.specs.Bound.{IsInOrder, TellApart};
+ghost use Rattle.just_examples_values.specs.loops.Bound.{BindsAll};
 
 use crate::bodies::{add_lines, add_values};
 use crate::environments::add_environment;

@@ -1,5 +1,5 @@
 //! What the lines of recipes and the expressions in them come to.
-ghost use Rattle.just_examples_values.specs.Bound.{BindsAll};
+ghost use Rattle.just_examples_values.specs.loops.Bound.{BindsAll};
 
 use crate::place::Place;
 use just_errors::Refusal;

@@ -1,6 +1,6 @@
 //! What the parameters of recipes come to.
 ghost use Rattle.std.specs.Prelude.{IfOk};
-ghost use Rattle.just_examples_values.specs.Bound.{BindsAll};
+ghost use Rattle.just_examples_values.specs.loops.Bound.{BindsAll};
 
 use crate::handed::groups_of;
 use crate::place::Place;

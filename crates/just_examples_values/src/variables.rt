@@ -3,7 +3,7 @@ ghost use Rattle.std.specs.Prelude.{IfOk, Some};
 ghost use Rattle.just_parts.specs.Needs.{HaveNumbersApart};
 ghost use Rattle.just_run_layers.specs.Covering.{HasEvaluationOrder, IsClosedIn, module_of};
 ghost use Rattle.just_run_layers.specs.Evaluation.{set_of};
-ghost use Rattle.just_examples_values.specs.Bound.{BindsAll};
+ghost use Rattle.just_examples_values.specs.loops.Bound.{BindsAll};
 
 use just_data::{Chain, Shared};
 use just_errors::Refusal;

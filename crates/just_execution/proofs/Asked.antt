@@ -23,7 +23,8 @@ use Rattle.just_run_layers.specs.Interactions.{Return, and_then, CanReturn, log_
 use Rattle.just_run_layers.proofs.InteractionLemmas.{took-asked}
 use Rattle.just_execution.specs.Account.{AreNamed, StandFor}
 use Rattle.just_execution.specs.Arguments.{argument_steps, dependencies_steps, dependency_steps, group_steps, groups_steps, spread, task_at, tasks_with, texts_given, texts_steps, value_steps, valued_answered, with_text}
-use Rattle.just_execution.specs.TaskInteractions.{AsksAlone, after_steps, ask_in, ask_steps, bound_answered, consent_by, consent_steps, follow_in, follow_steps, held_steps, parameters_steps, prepare_steps, prior_steps, surrounded}
+use Rattle.just_execution.specs.TaskInteractions.{after_steps, ask_in, ask_steps, bound_answered, consent_by, consent_steps, follow_in, follow_steps, held_steps, parameters_steps, prepare_steps, prior_steps, surrounded}
+use Rattle.just_execution.specs.loops.TaskInteractions.{AsksAlone}
 use Rattle.just_execution.specs.Pairs.{prior_dependencies, subsequent_dependencies}
 use Rattle.just_execution.specs.Scene.{ModuleContents, Scene}
 use Rattle.just_execution.specs.Walking.{Prepared}

@@ -21,8 +21,9 @@ use Rattle.just_run_layers.specs.Covering.{AreParametersCovered, BindsParameters
 use Rattle.just_run_layers.specs.declared.held.Held.{Held}
 use Rattle.just_recipe_body.specs.Covering.{IsBodyCovered}
 use Rattle.just_recipe_body.proofs.AllLemmas.{all-left, all-right}
-use Rattle.just_execution.specs.Arguments.{IsGivenIn, IsReadableArgument}
-use Rattle.just_execution.specs.Homes.{IsBound, IsRead, ServesIn, arguments_of}
+use Rattle.just_execution.specs.loops.Arguments.{IsGivenIn, IsReadableArgument}
+use Rattle.just_execution.specs.Homes.{IsBound, IsRead, arguments_of}
+use Rattle.just_execution.specs.loops.Homes.{ServesIn}
 use Rattle.just_execution.specs.declared.scopes.ModuleScope.{ModuleScope}
 use Rattle.just_execution.proofs.Places.{All-unmap}
 

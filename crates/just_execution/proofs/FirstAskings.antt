@@ -8,7 +8,7 @@ use Rattle.just_run_layers.specs.Host.{Answer}
 use Rattle.just_run_layers.specs.Interactions.{Question}
 use Rattle.just_execution.specs.Expansion.{Part, Prepare, Block, same_part, part_key, expansion}
 use Rattle.just_execution.specs.Firsts.{has, without_key, firsts_by}
-use Rattle.just_execution.specs.Lower.{IsLower}
+use Rattle.just_execution.specs.loops.Lower.{IsLower}
 use Rattle.just_execution.specs.Reports.{IsFirstAsked}
 use Rattle.just_execution.specs.declared.task.Task.{Task}
 use Rattle.just_execution.specs.Pairs.{same_pair, key, AllBelow}

@@ -9,8 +9,8 @@ use Rattle.just_run_layers.proofs.InteractionLemmas.{then-assoc, then-give, then
 use Rattle.just_execution.specs.declared.frame.Frame.{Frame}
 use Rattle.just_execution.specs.declared.frame.Frame.TheVariants.{Call, Block, Back}
 use Rattle.just_execution.specs.declared.frame.OpenTable.{OpenTable}
-use Rattle.just_execution.specs.Frames.{walk_at, under, frame_steps, continuation_from, calls_of}
-use Rattle.just_execution.specs.Lower.{IsLower}
+use Rattle.just_execution.specs.loops.Frames.{walk_at, under, frame_steps, continuation_from, calls_of}
+use Rattle.just_execution.specs.loops.Lower.{IsLower}
 use Rattle.just_execution.specs.declared.task.Task.{Task}
 use Rattle.just_execution.specs.Pairs.{AllBelow}
 use Rattle.just_execution.specs.Walking.{TaskInteractions, State, count_steps, all_steps, opened, fresh_steps, block_steps, ran, ran_steps, visit_steps, walk_steps}

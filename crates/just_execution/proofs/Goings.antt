@@ -10,8 +10,8 @@ use Rattle.just_run_layers.specs.Interactions.{Log, Question, Interaction, Retur
 use Rattle.just_run_layers.proofs.InteractionLemmas.{keeps-self, took-out, took-stop, took-then, took-kept}
 use Rattle.just_execution.specs.declared.frame.Frame.{Frame}
 use Rattle.just_execution.specs.declared.frame.Frame.TheVariants.{Call, Block}
-use Rattle.just_execution.specs.Frames.{walk_at, with_calls, continuation_from, calls_of, Simulates, replace_value}
-use Rattle.just_execution.specs.Lower.{IsLower}
+use Rattle.just_execution.specs.loops.Frames.{walk_at, with_calls, continuation_from, calls_of, Simulates, replace_value}
+use Rattle.just_execution.specs.loops.Lower.{IsLower}
 use Rattle.just_execution.specs.declared.task.Task.{Task}
 use Rattle.just_execution.specs.Pairs.{AllBelow}
 use Rattle.just_execution.specs.declared.run.Report.{Report}

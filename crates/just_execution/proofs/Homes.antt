@@ -15,8 +15,10 @@ use Rattle.just_run_layers.specs.Host.{Answer}
 use Rattle.just_run_layers.specs.Interactions.{both, Log, log_of}
 use Rattle.just_run_layers.proofs.InteractionLemmas.{took-gives}
 use Rattle.just_execution.specs.Account.{AreNamed}
-use Rattle.just_execution.specs.Homes.{AllHaveModuleScope, IsCallable, HasModuleScope, IsServed, Modules, ServesIn, module_scope_at}
-use Rattle.just_execution.specs.TaskInteractions.{AsksAlone, Prepares, ask_steps, follow_steps}
+use Rattle.just_execution.specs.Homes.{AllHaveModuleScope, HasModuleScope, Modules, module_scope_at}
+use Rattle.just_execution.specs.loops.Homes.{IsCallable, IsServed, ServesIn}
+use Rattle.just_execution.specs.TaskInteractions.{ask_steps, follow_steps}
+use Rattle.just_execution.specs.loops.TaskInteractions.{AsksAlone, Prepares}
 use Rattle.just_execution.specs.Pairs.{AllBelow, at_place, needed}
 use Rattle.just_recipes.specs.Places.{place_of}
 use Rattle.just_execution.specs.Leading.{DependsOnPlace, places}

@@ -12,7 +12,8 @@ use Rattle.just_run_layers.specs.Host.{Answer, KeepsPromises}
 use Rattle.just_run_layers.specs.Interactions.{Log, Interaction, HasTrace, both, log_of}
 use Rattle.just_execution.specs.Arguments.{dependencies_steps}
 use Rattle.just_execution.specs.Homes.{Modules, module_scope_at}
-use Rattle.just_execution.specs.TaskInteractions.{AsksAlone, Prepares, consent_by, consent_steps, follow_steps, parameters_steps, surrounded}
+use Rattle.just_execution.specs.TaskInteractions.{consent_by, consent_steps, follow_steps, parameters_steps, surrounded}
+use Rattle.just_execution.specs.loops.TaskInteractions.{AsksAlone, Prepares}
 use Rattle.just_execution.specs.Pairs.{prior_dependencies, subsequent_dependencies}
 use Rattle.just_execution.specs.Scene.{Scene, contents_of, running, scene_with}
 use Rattle.just_execution.specs.declared.scopes.ModuleScope.{ModuleScope}

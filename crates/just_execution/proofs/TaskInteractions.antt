@@ -12,8 +12,9 @@ use Rattle.just_run_layers.specs.Host.{Answer}
 use Rattle.just_run_layers.specs.Interactions.{Log, and_then, both, log_of}
 use Rattle.just_run_layers.proofs.InteractionLemmas.{took-gives}
 use Rattle.just_execution.specs.Account.{AreNamed}
-use Rattle.just_execution.specs.TaskInteractions.{AsksAlone, Prepares, ask_in, ask_steps, follow_in, follow_steps, after_steps, held_steps, interactions_of, parameters_steps, prepare_steps}
-use Rattle.just_execution.specs.Lower.{IsLower}
+use Rattle.just_execution.specs.TaskInteractions.{ask_in, ask_steps, follow_in, follow_steps, after_steps, held_steps, interactions_of, parameters_steps, prepare_steps}
+use Rattle.just_execution.specs.loops.TaskInteractions.{AsksAlone, Prepares}
+use Rattle.just_execution.specs.loops.Lower.{IsLower}
 use Rattle.just_execution.specs.declared.task.Task.{Task}
 use Rattle.just_execution.specs.Pairs.{AllBelow, prior_dependencies, subsequent_dependencies}
 use Rattle.just_recipe.specs.Recipes.{IsOrdered}

@@ -13,7 +13,8 @@ use Rattle.just_run_layers.specs.Host.{Answer, KeepsPromises}
 use Rattle.just_run_layers.specs.Interactions.{Log, Interaction, Return, HasTrace, and_then, both, log_of}
 use Rattle.just_run_layers.proofs.InteractionLemmas.{keeps-both, keeps-self, took-stop, took-then}
 use Rattle.just_execution.specs.Arguments.{dependencies_steps}
-use Rattle.just_execution.specs.TaskInteractions.{AsksAlone, Prepares, consent_by, consent_steps, follow_steps, held_steps, parameters_steps, prior_steps, surrounded}
+use Rattle.just_execution.specs.TaskInteractions.{consent_by, consent_steps, follow_steps, held_steps, parameters_steps, prior_steps, surrounded}
+use Rattle.just_execution.specs.loops.TaskInteractions.{AsksAlone, Prepares}
 use Rattle.just_execution.specs.Pairs.{prior_dependencies, subsequent_dependencies}
 use Rattle.just_execution.specs.Scene.{ModuleContents, Scene}
 use Rattle.just_execution.specs.Walking.{Prepared}

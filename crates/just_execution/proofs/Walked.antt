@@ -12,7 +12,7 @@ use Rattle.just_run_layers.proofs.InteractionLemmas.{then-assoc, then-give}
 use Rattle.just_execution.specs.declared.pair.Pair.{Pair}
 use Rattle.just_execution.specs.Expansion.{Part, Prepare, Block, part_key}
 use Rattle.just_execution.specs.Firsts.{has}
-use Rattle.just_execution.specs.Lower.{IsLower}
+use Rattle.just_execution.specs.loops.Lower.{IsLower}
 use Rattle.just_execution.specs.declared.task.Task.{Task}
 use Rattle.just_execution.specs.Pairs.{same_pair, put_in, key, AllBelow}
 use Rattle.just_execution.specs.Run.{tasks_in, priors_in, priors_by, subsequents_after, subsequents_by, block_run, part_steps, in_turn, Each}

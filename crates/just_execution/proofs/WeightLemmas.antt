@@ -7,7 +7,7 @@ use Rattle.just_run_layers.specs.declared.held.Held.{Held}
 use Rattle.just_execution.specs.declared.frame.Frame.{Frame}
 use Rattle.just_execution.specs.declared.frame.Frame.TheVariants.{Call, Block, Back}
 use Rattle.just_execution.specs.declared.frame.OpenTable.{OpenTable}
-use Rattle.just_execution.specs.Frames.{calls_of, cost, frame_weight, weight}
+use Rattle.just_execution.specs.loops.Frames.{calls_of, cost, frame_weight, weight}
 use Rattle.just_execution.specs.declared.task.Task.{Task}
 use Rattle.just_execution.specs.Pairs.{AllBelow}
 

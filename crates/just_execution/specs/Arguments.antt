@@ -1,18 +1,15 @@
 -- What the arguments of dependencies are asked for, and the tasks that their texts give.
 use Rattle.std.specs.Prelude.{ℕ, Bool, true, cond, List, [], ◌∷◌, ◌++◌, map, codes, get_or, set, Option, None, Some}
-use Rattle.std.specs.List.{All, position}
+use Rattle.std.specs.List.{position}
 use Rattle.just_ast_expressions.specs.declared.expression.Expression.{Expression}
 use Rattle.just_errors.specs.declared.halt.Halt.{Halt}
 use Rattle.just_errors.specs.declared.halt.Halt.TheVariants.{Memory, Failed}
 use Rattle.just_errors.specs.declared.run_error.RunError.TheVariants.{Evaluate}
 use Rattle.just_names.specs.Texts.{Text, joined}
-use Rattle.just_parts.specs.Known.{Known}
-use Rattle.just_ast_expressions.specs.declared.scope.Scope.{Scope}
 use Rattle.just_recipe.specs.Starred.{has_star}
 use Rattle.just_recipe.specs.declared.dependency.Dependency.{Dependency}
 use Rattle.just_recipe.specs.declared.dependency.DependencyArgument.{DependencyArgument}
 use Rattle.just_recipe.specs.declared.recipe.Recipe.{Recipe}
-use Rattle.just_run_layers.specs.Covering.{IsCovered}
 use Rattle.just_run_layers.specs.Evaluation.{Surroundings, Value}
 use Rattle.just_run_layers.specs.Host.{Answer, Valued, Refused}
 use Rattle.just_run_layers.specs.Interactions.{Interaction, Return, Fail, Ask, ToEvaluator, and_then}
@@ -79,16 +76,3 @@ dependency_steps recipes s d = and_then (groups_steps s d.arguments) (λ groups.
 -- the tasks of dependencies, one after another
 abbrev pub dependencies_steps : List (Recipe Dependency) → Surroundings → List Dependency → Interaction (List Task)
 dependencies_steps recipes s ds = gathered (dependency_steps recipes s) ds
-
--- for the private functions: what the arguments of a group, and those of a dependency, read is bound in a scope
-abbrev pub IsReadableArgument : Known → Scope → DependencyArgument → Type 0
-IsReadableArgument m scope a = IsCovered m scope a.expression
-
-abbrev pub AreReadableArguments : Known → Scope → List DependencyArgument → Type 0
-AreReadableArguments m scope arguments = All (IsReadableArgument m scope) arguments
-
-abbrev pub AreReadableGroups : Known → Scope → List (List DependencyArgument) → Type 0
-AreReadableGroups m scope groups = All (AreReadableArguments m scope) groups
-
-abbrev pub IsGivenIn : Known → Scope → Dependency → Type 0
-IsGivenIn m scope d = AreReadableGroups m scope d.arguments

@@ -1,13 +1,11 @@
 -- Where recipes run: the modules of a run, and what is bound in them.
 use Rattle.std.proofs.Common.{BuildHasherDefault, FoldHasher}
-use Rattle.std.specs.Prelude.{◌≡◌, ◌<◌, ℕ, true, List, [], ◌∷◌, length, Option, None, Some, IsSome}
+use Rattle.std.specs.Prelude.{◌≡◌, ℕ, List, Option, None, Some}
 use Rattle.std.specs.HashMap.{HashMap, get}
 use Rattle.std.specs.List.{All, slice_get}
 use Rattle.just_ast_expressions.specs.declared.scope.Scope.{Scope}
-use Rattle.just_names.specs.Texts.{Text}
-use Rattle.just_parts.specs.Evaluator.{values_of}
 use Rattle.just_parts.specs.Known.{Known}
-use Rattle.just_parts.specs.Scopes.{Scoped, is_parameter, scopes_of}
+use Rattle.just_parts.specs.Scopes.{Scoped, scopes_of}
 use Rattle.just_parts.specs.Syntax.{SyntaxAnswers}
 use Rattle.just_paths.specs.contracts.modulepath.ModulepathPartialEq.TheImpl as path_eq
 use Rattle.just_paths.specs.declared.modulepath.Modulepath.{Modulepath}
@@ -16,7 +14,6 @@ use Rattle.just_recipe.specs.declared.dependency.Dependency.{Dependency}
 use Rattle.just_recipe.specs.declared.dependency.DependencyArgument.{DependencyArgument}
 use Rattle.just_recipe.specs.declared.recipe.Recipe.{Recipe}
 use Rattle.just_run_layers.specs.Covering.{BindsRead, module_of}
-use Rattle.just_run_layers.specs.declared.held.Held.{Held}
 use Rattle.just_execution.specs.declared.scopes.ModuleScope.{ModuleScope}
 use Rattle.just_execution.specs.declared.task.Task.{Task}
 use Rattle.just_execution.specs.Leading.{LeadTo}
@@ -55,18 +52,3 @@ pub record HasModuleScope (answers : SyntaxAnswers) (modules : Modules) (r : Rec
 -- each recipe that they lead to has it
 abbrev pub AllHaveModuleScope : SyntaxAnswers → Modules → List (Recipe Dependency) → List Task → Type 0
 AllHaveModuleScope answers modules recipes tops = (place : ℕ) (recipe : Recipe Dependency) → LeadTo recipes tops place → slice_get recipes place ≡ Some recipe → HasModuleScope answers modules recipe
-
--- for the private functions: a task that can be called: its recipe is there, and what it leads to has its module's scope
-pub record IsCallable (answers : SyntaxAnswers) (modules : Modules) (recipes : List (Recipe Dependency)) (t : Task) : Type 0 where
-  pub place : t.pair.recipe < length recipes
-  pub home : AllHaveModuleScope answers modules recipes (t ∷ [])
-
--- what is held serves a recipe in a module: what the recipe reads is bound in it, and each of the recipe's parameters has a value
-pub record ServesIn (answers : SyntaxAnswers) (m : ModuleScope) (r : Recipe Dependency) (h : Held) : Type 0 where
-  pub bound : IsBound answers m r h.scope
-  pub named : (name : Text) → is_parameter r.parameters name ≡ true → IsSome (values_of h.scope name)
-
--- it serves a task: in the module of the task's recipe
-abbrev pub IsServed : SyntaxAnswers → Modules → List (Recipe Dependency) → Task → Held → Type 0
-IsServed answers modules recipes t h =
-    (m : ModuleScope) (recipe : Recipe Dependency) → slice_get recipes t.pair.recipe ≡ Some recipe → module_scope_at modules recipe.module_path ≡ Some m → ServesIn answers m recipe h

@@ -6,7 +6,6 @@ use Rattle.just_recipe.specs.declared.dependency.Dependency.{Dependency}
 use Rattle.just_recipe.specs.declared.recipe.Recipe.{Recipe}
 use Rattle.just_execution.specs.declared.pair.Pair.{Pair}
 use Rattle.just_execution.specs.declared.task.Task.{Task}
-use Rattle.just_execution.specs.Firsts.{has}
 
 -- whether two pairs have one recipe and the same texts
 abbrev pub same_pair : Pair → Pair → Bool
@@ -15,10 +14,6 @@ same_pair p q = (p.recipe == q.recipe) && pointwise (pointwise (pointwise nat_eq
 -- which pairs ran under a table
 abbrev pub OnceTable : Type 0
 OnceTable = Pair → Bool
-
--- those of a list did
-abbrev pub table_of : List Pair → OnceTable
-table_of pairs = has same_pair pairs
 
 -- none did
 abbrev pub none : OnceTable

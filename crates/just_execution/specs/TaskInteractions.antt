@@ -1,5 +1,5 @@
 -- What is asked of one task of a scene.
-use Rattle.std.specs.Prelude.{◌≡◌, ℕ, Bool, true, false, cond, List, [], take, drop, Option, Some, None, Result, Ok, Err}
+use Rattle.std.specs.Prelude.{◌≡◌, ℕ, Bool, true, false, cond, List, [], take, drop, Option, Some, None, Result}
 use Rattle.std.specs.List.{slice_get}
 use Rattle.just_paths.specs.declared.modulepath.Modulepath.{Modulepath}
 use Rattle.just_recipe.specs.declared.dependency.Dependency.{Dependency}
@@ -13,14 +13,13 @@ use Rattle.just_run_layers.specs.declared.held.Held.{Held}
 use Rattle.just_run_layers.specs.declared.host.Entry.{Entry}
 use Rattle.just_run_layers.specs.declared.host.Entry.TheVariants.{Begin}
 use Rattle.just_recipe.specs.declared.recipe.Recipe.{Recipe}
-use Rattle.just_run_layers.specs.Evaluation.{Inquiry, Parameters, ScopeRequest, StringOf, Surroundings, Value}
+use Rattle.just_run_layers.specs.Evaluation.{Inquiry, Parameters, StringOf, Surroundings, Value}
 use Rattle.just_run_layers.specs.Host.{Answer, Bound, Refused}
-use Rattle.just_run_layers.specs.Interactions.{Log, log_of, Question, Interaction, Return, Fail, Ask, ToHost, ToEvaluator, and_then, HasTrace, both}
+use Rattle.just_run_layers.specs.Interactions.{Log, Question, Interaction, Return, Fail, Ask, ToHost, ToEvaluator, and_then, HasTrace, both}
 use Rattle.just_recipe_body.specs.Body.{BodyContents, body_name}
 use Rattle.just_recipe_body.specs.Confirmation.{confirm_steps}
 use Rattle.just_recipe_run.specs.RecipeRun.{recipe_steps}
 use Rattle.just_execution.specs.Arguments.{dependencies_steps, unevaluated}
-use Rattle.just_execution.specs.declared.questions.Preparation.{Preparation}
 use Rattle.just_execution.specs.declared.task.Task.{Task}
 use Rattle.just_execution.specs.Scene.{ModuleContents, Scene}
 use Rattle.just_execution.specs.Walking.{TaskInteractions, Prepared}
@@ -133,22 +132,6 @@ called flag inquiry = inquiry
 -- the evaluator answers alike whether or not a recipe runs as a dependency
 abbrev pub IsAlike : (Question → Answer) → Type 0
 IsAlike f = (inquiry : Inquiry) → f (ToEvaluator (called true inquiry)) ≡ f (ToEvaluator (called false inquiry))
-
--- for the private functions: what asking came to
-abbrev pub prepared : Preparation → Prepared
-prepared p = record { held = p.held; priors = p.priors.items }
-
-abbrev pub prepared_of : Result Preparation Halt → Result Prepared Halt
-prepared_of (Ok p) = Ok (prepared p)
-prepared_of (Err e) = Err e
-
--- the questions before the priors; questions of which the host is asked none, whatever it has kept; and the body
-abbrev pub Prepares : (Inquiry → Option Answer) → (Entry → Option Answer) → Scene → Task → Log → Log → Result Prepared Halt → Type 0
-Prepares evaluator host scene task old new result = HasTrace (both evaluator host) (ask_steps scene task) old new result
-
-abbrev pub AsksAlone : {A : Type 0} → (Inquiry → Option Answer) → Interaction A → List ScopeRequest → List ScopeRequest → Result A Halt → Type 0
-AsksAlone evaluator steps before later result =
-    (host : Entry → Option Answer) (entries : List Entry) → HasTrace (both evaluator host) steps (log_of entries before) (log_of entries later) result
 
 abbrev pub Executes : (Inquiry → Option Answer) → (Entry → Option Answer) → Scene → Task → Held → Log → Log → Result (Unit {0}) Halt → Type 0
 Executes evaluator host scene task held old new result = HasTrace (both evaluator host) (execute_steps scene task held) old new result

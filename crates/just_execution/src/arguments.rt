@@ -6,9 +6,11 @@ ghost use Rattle.just_recipe.specs.Recipes.{numbers};
 ghost use Rattle.just_run_layers.specs.Covering.{IsCovered, module_of};
 ghost use Rattle.just_run_layers.specs.Evaluation.{surroundings};
 ghost use Rattle.just_run_layers.specs.Host.{KeepsPromises};
-ghost use Rattle.just_execution.specs.Arguments.{AreReadableGroups, AreReadableArguments, IsGivenIn, IsReadableArgument, argument_steps, dependencies_steps, groups_steps, task_at, tasks_with, texts_given, texts_steps, value_steps, with_text};
-ghost use Rattle.just_execution.specs.Frames.{items_of_frames};
-ghost use Rattle.just_execution.specs.TaskInteractions.{AsksAlone, surrounded};
+ghost use Rattle.just_execution.specs.Arguments.{argument_steps, dependencies_steps, groups_steps, task_at, tasks_with, texts_given, texts_steps, value_steps, with_text};
+ghost use Rattle.just_execution.specs.loops.Arguments.{AreReadableGroups, AreReadableArguments, IsGivenIn, IsReadableArgument};
+ghost use Rattle.just_execution.specs.loops.Frames.{items_of_frames};
+ghost use Rattle.just_execution.specs.TaskInteractions.{surrounded};
+ghost use Rattle.just_execution.specs.loops.TaskInteractions.{AsksAlone};
 ghost use Rattle.just_execution.specs.Scene.{contents_of};
 
 use crate::pair::Pair;

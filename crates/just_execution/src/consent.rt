@@ -1,6 +1,6 @@
 //! Whether a task may run: its confirmation.
 ghost use Rattle.std.specs.Prelude.{◌≡◌};
-ghost use Rattle.just_execution.specs.Homes.{ServesIn};
+ghost use Rattle.just_execution.specs.loops.Homes.{ServesIn};
 ghost use Rattle.just_execution.specs.TaskInteractions.{consent_by, consent_steps};
 ghost use Rattle.just_execution.specs.Scene.{contents_of};
 ghost use Rattle.just_run_layers.specs.Host.{KeepsPromises};

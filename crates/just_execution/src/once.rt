@@ -1,5 +1,6 @@
 ghost use Rattle.std.specs.Prelude.{◌≡◌, [], OnOk, OnErr};
-ghost use Rattle.just_execution.specs.Pairs.{put_in, table_of};
+ghost use Rattle.just_execution.specs.Pairs.{put_in};
+ghost use Rattle.just_execution.specs.loops.Pairs.{table_of};
 
 use crate::pair::Pair;
 use std::alloc::{AllocError, Global};

@@ -6,9 +6,10 @@ ghost use Rattle.just_recipe.specs.Recipes.{IsResolved};
 ghost use Rattle.just_run_layers.specs.Covering.{AreParametersCovered, BindsParameters, module_of};
 ghost use Rattle.just_run_layers.specs.Host.{KeepsPromises};
 ghost use Rattle.just_run_layers.specs.Interactions.{log_of};
-ghost use Rattle.just_execution.specs.Frames.{items_of_frames};
-ghost use Rattle.just_execution.specs.Homes.{IsCallable, IsServed};
-ghost use Rattle.just_execution.specs.TaskInteractions.{AsksAlone, Prepares, follow_steps, parameters_steps, prepared_of};
+ghost use Rattle.just_execution.specs.loops.Frames.{items_of_frames};
+ghost use Rattle.just_execution.specs.loops.Homes.{IsCallable, IsServed};
+ghost use Rattle.just_execution.specs.TaskInteractions.{follow_steps, parameters_steps};
+ghost use Rattle.just_execution.specs.loops.TaskInteractions.{AsksAlone, Prepares, prepared_of};
 ghost use Rattle.just_execution.specs.Scene.{contents_of, scene_in};
 
 use crate::arguments::ask_dependencies;

@@ -1,5 +1,5 @@
 ghost use Rattle.std.specs.Prelude.{◌≡◌, ◌<◌, ◌+◌, ◌^◌, ◌++◌, length, get_or, IfErr, OnOk, OnErr};
-ghost use Rattle.just_execution.specs.Frames.{calls_of};
+ghost use Rattle.just_execution.specs.loops.Frames.{calls_of};
 ghost use Rattle.just_execution.specs.Walking.{add_at};
 
 use crate::frame::{Frame, OpenTable};
@@ -50,7 +50,7 @@ pub fn push_calls<'src>(frames: &mut Vec<Frame<'src>>, tasks: Vec<Task>) -> Resu
 
 impl<'src> RunState<'src> {
     ghost use Rattle.std.specs.Prelude.{◌≡◌, [], IfOk, OnOk};
-    ghost use Rattle.just_execution.specs.Frames.{IsOpened, state_of};
+    ghost use Rattle.just_execution.specs.loops.Frames.{IsOpened, state_of};
     ghost use Rattle.just_execution.specs.Walking.{opened};
 
     /// A run with nothing to do, under its first table.

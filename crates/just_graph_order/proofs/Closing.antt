@@ -10,7 +10,7 @@ use Rattle.std.specs.declared.alloc.Global.{Global}
 use Rattle.just_graph.specs.Steps.{Leads, by_step, by_steps}
 use Rattle.just_graph.specs.Graph.{targets, HasEdge}
 use Rattle.just_graph.specs.Found.{is_seen, Listing, Added}
-use Rattle.just_graph_order.specs.Finished.{Closed}
+use Rattle.just_graph_order.specs.loops.Finished.{Closed}
 use Rattle.just_graph_order.specs.Through.{IsSolid}
 use Rattle.just_graph.proofs.Pushes.{at_contained}
 use Rattle.just_graph_order.proofs.Inside.{marked_inside}

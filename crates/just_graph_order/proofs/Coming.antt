@@ -10,7 +10,7 @@ use Rattle.just_graph.specs.Steps.{Leads, IsCircle, circle_by}
 use Rattle.just_graph_order.specs.Through.{Reads, reads_by}
 use Rattle.just_graph.specs.Graph.{targets, HasEdge}
 use Rattle.just_graph.specs.Found.{is_seen, Added}
-use Rattle.just_graph_order.specs.Came.{CameBy}
+use Rattle.just_graph_order.specs.loops.Came.{CameBy}
 use Rattle.just_graph.proofs.Adding.{row_done}
 use Rattle.just_graph_order.proofs.Closing.{Closing, closing_over, leads_seen}
 

@@ -11,7 +11,7 @@ use Rattle.std.specs.declared.alloc.Global.{Global}
 use Rattle.just_graph.specs.Steps.{Leads, by_step, by_steps, IsWalk, Reached, from_start, from_member}
 use Rattle.just_graph.specs.Graph.{targets, HasEdge}
 use Rattle.just_graph.specs.Found.{is_seen}
-use Rattle.just_graph_order.specs.Finished.{Finishing, IsFinished}
+use Rattle.just_graph_order.specs.loops.Finished.{Finishing, IsFinished}
 use Rattle.just_graph.proofs.Pushes.{at_contained, push_old, push_new, push_place, below_push, each_push, each_front, each_last, once_push, once_front, once_last, walk_push, walk_front}
 
 -- one more node is marked as seen

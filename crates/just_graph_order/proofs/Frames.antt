@@ -10,8 +10,8 @@ use Rattle.std.specs.declared.alloc.Global.{Global}
 use Rattle.just_graph.specs.Steps.{from_start, from_member}
 use Rattle.just_graph.specs.Graph.{targets, HasEdge, IsGraph}
 use Rattle.just_graph.specs.Found.{is_seen, unseen}
-use Rattle.just_graph_order.specs.Finished.{Finishing}
-use Rattle.just_graph_order.specs.Path.{nodes, counts}
+use Rattle.just_graph_order.specs.loops.Finished.{Finishing}
+use Rattle.just_graph_order.specs.loops.Path.{nodes, counts}
 use Rattle.just_graph_order.specs.declared.finishing.Frame.{Frame}
 use Rattle.just_graph.proofs.Targets.{target_inside}
 use Rattle.just_graph_order.proofs.Inside.{marked_inside}

@@ -8,7 +8,7 @@ use Rattle.std.proofs.lemmas.List.Elements.{Contains-get_or}
 use Rattle.std.specs.List.{Contains, filter}
 use Rattle.just_graph.specs.Steps.{Leads, by_step, by_steps, Reached, in_take}
 use Rattle.just_graph_order.specs.Through.{IsSolid, IsOrderThrough}
-use Rattle.just_graph_order.specs.Finished.{ListsOrComesBack, IsFinished}
+use Rattle.just_graph_order.specs.loops.Finished.{ListsOrComesBack, IsFinished}
 use Rattle.just_graph_order.proofs.Filtered.{contains_filter, once_filter, filter_place}
 use Rattle.just_graph_order.proofs.Passing.{passes_leads, reads_leads}
 

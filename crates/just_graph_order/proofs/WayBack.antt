@@ -4,7 +4,7 @@ use Rattle.std.proofs.Common.{◌≡◌, ℕ, ◌+◌, ◌-◌, ◌<◌, ◌≤�
 use Rattle.std.proofs.lemmas.List.{length_push, length-reverse, length-drop, get_or-reverse, get_or-drop}
 use Rattle.just_graph.specs.Steps.{IsWalk, IsOnce, IsCircle}
 use Rattle.just_graph_order.specs.Through.{IsSolid, Passes, at_once, passing, Reads}
-use Rattle.just_graph_order.specs.Came.{CameBy}
+use Rattle.just_graph_order.specs.loops.Came.{CameBy}
 use Rattle.just_graph.proofs.Pushes.{push_old, push_new, each_push, once_push, walk_push}
 
 -- a walk against the steps that begins and ends with s is a circle, the other way round

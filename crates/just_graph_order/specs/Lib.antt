@@ -1,4 +1,2 @@
 pub mod Through
-pub mod Finished
-pub mod Path
-pub mod Came
+pub mod loops

@@ -5,8 +5,8 @@ ghost use Rattle.std.specs.List.{All, Contains};
 ghost use Rattle.just_graph.specs.Found.{is_seen};
 ghost use Rattle.just_graph.specs.Graph.{HasEdge, IsGraph};
 ghost use Rattle.just_graph.specs.Steps.{IsCircle, IsOnce, Leads};
-ghost use Rattle.just_graph_order.specs.Came.{CameBy};
-ghost use Rattle.just_graph_order.specs.Finished.{Closed};
+ghost use Rattle.just_graph_order.specs.loops.Came.{CameBy};
+ghost use Rattle.just_graph_order.specs.loops.Finished.{Closed};
 ghost use Rattle.just_graph_order.specs.Through.{IsSolid, Reads};
 
 use just_graph::rows::{add, row};

@@ -4,7 +4,7 @@ ghost use Rattle.std.specs.Prelude.{◌≡◌, ◌<◌, ◌≤◌, ℕ, [], true
 ghost use Rattle.std.specs.List.{All};
 ghost use Rattle.just_graph.specs.Found.{is_seen};
 ghost use Rattle.just_graph.specs.Graph.{HasEdge, IsGraph};
-ghost use Rattle.just_graph_order.specs.Finished.{Finishing, IsFinished};
+ghost use Rattle.just_graph_order.specs.loops.Finished.{Finishing, IsFinished};
 
 use just_graph::rows::row;
 use std::alloc::{AllocError, Global};

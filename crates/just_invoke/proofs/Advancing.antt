@@ -20,7 +20,8 @@ use Rattle.just_justfile.specs.declared.justfile.Justfile.{Justfile, out-Justfil
 use Rattle.just_invoke.specs.Cause.{InvocationFault}
 use Rattle.just_evaluate.specs.Destination.{submodule_aliased}
 use Rattle.just_invoke.specs.Meaning.{Meaning, a_module, a_recipe, disabled_recipe, disabled_alias, absent_module, nothing, disabling, found_or, meaning}
-use Rattle.just_invoke.specs.Head.{BadName, IsEnd, IsNoEnd, IsStep, MeaningLeads, MeaningMisleads, WordsLead, WordsMislead, goes_on, place_of}
+use Rattle.just_invoke.specs.Head.{MeaningLeads, MeaningMisleads, WordsLead, WordsMislead, goes_on, place_of}
+use Rattle.just_invoke.specs.loops.Head.{BadName, IsEnd, IsNoEnd, IsStep}
 use Rattle.just_invoke.specs.declared.walk.Step.{Step}
 use Rattle.just_invoke.specs.declared.walk.Step.TheVariants as step
 

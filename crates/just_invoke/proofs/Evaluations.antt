@@ -22,7 +22,8 @@ use Rattle.just_scopes.specs.Opening.{Handed, Opened, all_opened}
 use Rattle.just_scopes.specs.Preorder.{IsPreorderUnder, Placed}
 use Rattle.just_evaluate.specs.Asked.{AreTargetNumbers}
 use Rattle.just_evaluate.specs.Destination.{TellsLack, destination, leads_to}
-use Rattle.just_invoke.specs.Evaluation.{IsAnsweredFor, IsEvaluation, IsEvaluationAsExpected, IsTextMade, LeadsToValues, ValuesAsked, Writer, evaluated, made, numbers_of, shut, text_in, text_steps, unmade}
+use Rattle.just_invoke.specs.Evaluation.{IsAnsweredFor, IsEvaluation, IsEvaluationAsExpected, LeadsToValues, ValuesAsked, Writer, evaluated, numbers_of, shut, text_in, text_steps}
+use Rattle.just_invoke.specs.loops.Evaluation.{IsTextMade, made, unmade}
 use Rattle.just_invoke.specs.Lazily.{HasOpenedLazily}
 use Rattle.just_invoke.proofs.Wholes.{late-memory}
 

@@ -21,7 +21,8 @@ use Rattle.just_scopes.specs.Opening.{Setup}
 use Rattle.just_invoke.specs.Cause as cause
 use Rattle.just_invoke.specs.Results as going
 use Rattle.just_invoke.specs.Results.{RunEndsAs}
-use Rattle.just_invoke.specs.Outcome.{IsExcess, IsOutcome, IsRunnable, IsRunRefusal, excess, fault, memory, ran, refused, shut, tops}
+use Rattle.just_invoke.specs.Outcome.{IsOutcome, IsRunnable, IsRunRefusal, excess, fault, memory, ran, refused, shut, tops}
+use Rattle.just_invoke.specs.loops.Outcome.{IsExcess}
 use Rattle.just_invoke.specs.Split.{Counts, Invoked, IsSplit, HasWordsFault}
 use Rattle.just_invoke.specs.Whole.{IsWholeRun}
 use Rattle.just_invoke.proofs.Faults.{split_no_fault}

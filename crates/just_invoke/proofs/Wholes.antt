@@ -18,7 +18,8 @@ use Rattle.just_run_layers.specs.Host.{Answer, KeepsPromises}
 use Rattle.just_run_layers.specs.Interactions.{Ask, Fail, IsTraceOrPrefix, Return, ArePromised, Log, Question, Interaction, HasTrace, logged, and_then, both, executed_in, result_under, trace_under}
 use Rattle.just_run_layers.specs.declared.host.Entry.{Entry}
 use Rattle.just_scopes.specs.Opening.{Opened, Setup, all_opened, scene_of}
-use Rattle.just_invoke.specs.Results.{RunsInScene, RunsOpen, RunEndsAs, out, ran, shut}
+use Rattle.just_invoke.specs.Results.{RunsInScene, RunEndsAs, out, ran, shut}
+use Rattle.just_invoke.specs.loops.Results.{RunsOpen}
 use Rattle.just_invoke.specs.Whole.{HasOpened, IsWholeRun}
 
 -- nothing is asked for want of memory

@@ -36,9 +36,6 @@ pub record ProgramAsked : Type 0 where
   pub binary : Text
   pub arguments : List Text
 
-abbrev pub program_asked : Text → List Text → ProgramAsked
-program_asked binary arguments = record { binary = binary; arguments = arguments }
-
 -- it is to run
 abbrev pub AsksForProgram : Config → ProgramAsked → Type 0
 AsksForProgram config program = config.subcommand ≡ subcommand.Command program.binary program.arguments

@@ -1,7 +1,6 @@
 -- What the form Evaluate comes to: values are written, and no recipe runs.
 use Rattle.std.specs.Prelude.{◌≡◌, ◌++◌, ℕ, Bool, true, false, IsTrue, List, [], Option, Result, Ok, Err}
 use Rattle.std.specs.List.{list_any}
-use Rattle.std.specs.Option.{option_copied}
 use Rattle.just_ast_definitions.specs.declared.assignment.Assignment.{Assignment}
 use Rattle.just_errors.specs.Halts.{error_of}
 use Rattle.just_errors.specs.declared.error.Error.{Error}
@@ -30,7 +29,6 @@ use Rattle.just_evaluate.specs.Asked.{variables_asked}
 use Rattle.just_evaluate.specs.Destination.{TellsLack, destination, leads_to}
 use Rattle.just_evaluate.specs.Lines.{evaluated_text}
 use Rattle.just_evaluate.specs.Writing.{IsCutShort}
-use Rattle.just_evaluate.specs.declared.evaluation_target.EvaluationTarget.{EvaluationTarget}
 use Rattle.just_invoke.specs.Lazily.{HasOpenedLazily}
 
 -- recipes run where neither a program is to run nor values are to be written
@@ -60,10 +58,6 @@ pub record ValuesAsked : Type 0 where
   pub format : EvaluateFormat
   pub justfile : Justfile
   pub variable : Option Assignment
-
--- those of a target in a format
-abbrev pub values_behind : EvaluateFormat → EvaluationTarget → ValuesAsked
-values_behind format target = record { format = format; justfile = target.justfile.now; variable = option_copied target.assignment }
 
 -- a path from the root leads to them, where this format is asked for
 abbrev pub LeadsToValues : Justfile → EvaluateFormat → Option Modulepath → ValuesAsked → Type 0
@@ -118,11 +112,3 @@ IsEvaluationAsExpected displayed root handed evaluator host format path old new 
     ArePromised (both evaluator host) f (trace_under f (text_steps displayed sets handed ps values)) →
     (ended : Result Text Halt) × IsAnsweredFor ended before after result ×
     IsTraceOrPrefix (trace_under f (text_steps displayed sets handed ps values)) (result_under f (text_steps displayed sets handed ps values)) old new ended
-
--- for the private functions: the steps came to this text, or there is none
-pub data IsTextMade (displayed : List Text → Text) (root : Justfile) (values : ValuesAsked) (handed : Handed)
-    (evaluator : Inquiry → Option Answer) (host : Entry → Option Answer) (old new : Log) (result : Result Text Halt) : Type 0 where
-  unmade : (e : Halt) → result ≡ Err e → OpensLazily evaluator host handed root (numbers_of values) old new (Err e) → executed_in new ≡ executed_in old →
-      IsTextMade displayed root values handed evaluator host old new result
-  made : (opened : List Opened) → HasOpenedLazily evaluator host handed root (numbers_of values) old new opened → result ≡ Ok (text_in displayed values opened) →
-      IsTextMade displayed root values handed evaluator host old new result

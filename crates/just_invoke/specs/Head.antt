@@ -12,8 +12,6 @@ use Rattle.just_justfile.specs.Closed.{HeldRecipes, default_recipe, resolved_nam
 use Rattle.just_invoke.specs.Words.{IsPathWord, has_colon, is_empty}
 use Rattle.just_invoke.specs.Cause.{InvocationFault, unknown_recipe, unknown_submodule, expected_submodule, recipe_disabled, alias_disabled, module_absent, no_recipes, no_default, default_requires}
 use Rattle.just_invoke.specs.Meaning.{Meaning, a_module, a_recipe, disabled_recipe, disabled_alias, absent_module, nothing, meaning, path_text}
-use Rattle.just_invoke.specs.declared.walk.Step.{Step}
-use Rattle.just_invoke.specs.declared.walk.Step.TheVariants as step
 
 -- the module's default, which needs no argument
 abbrev pub TakesDefault : HeldRecipes → Justfile → Recipe Dependency → Type 0
@@ -68,10 +66,6 @@ MeaningMisleads absent_module On one go path place cause = cause ≡ module_abse
 MeaningMisleads nothing On one true path place cause = cause ≡ unknown_submodule (text_of path false)
 MeaningMisleads nothing On one false path place cause = cause ≡ unknown_recipe (text_of path (not one))
 
--- a name that is no module, and leads to no recipe
-abbrev pub BadName : Meaning → Bool → Bool → Words → Text → InvocationFault → Type 0
-BadName m = MeaningMisleads m (λ next. ⊥)
-
 -- the path of a name in a module, from the root
 abbrev pub place_of : Justfile → Text → Text
 place_of here name = path_text (path_on (out-Justfile here).module_path name)
@@ -96,17 +90,3 @@ NoHead root recipes (w ∷ ws) cause =
     MatchBool (has_colon w)
     (NoPath root recipes (is_empty ws) w cause)
     (WordsMislead root recipes root false [] (w ∷ ws) cause)
-
--- for the private functions: a step of the walk is what the name's meaning says, a module, or a recipe that ends the names
-abbrev pub IsStep : Meaning → Bool → Step → Type 0
-IsStep m go (step.On next) = m ≡ a_module next.now
-IsStep m go (step.End r) = (m ≡ a_recipe r.now) × (go ≡ false)
-
--- where names end: in a module, whose default is taken or is none, or at a recipe
-abbrev pub IsEnd : HeldRecipes → Step → Recipe Dependency → Type 0
-IsEnd recipes (step.On here) r = TakesDefault recipes here.now r
-IsEnd recipes (step.End found) r = r ≡ found.now
-
-abbrev pub IsNoEnd : HeldRecipes → Step → InvocationFault → Type 0
-IsNoEnd recipes (step.On here) cause = NoDefault (out-Justfile here.now).recipes (default_recipe here.now recipes) cause
-IsNoEnd recipes (step.End found) cause = ⊥

@@ -9,3 +9,4 @@ pub mod Results
 pub mod Split
 pub mod Whole
 pub mod Words
+pub mod loops

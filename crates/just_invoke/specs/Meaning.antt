@@ -12,7 +12,6 @@ use Rattle.just_justfile.specs.Walks.{module_named}
 use Rattle.just_justfile.specs.declared.disabled.Disabled.{Disabled}
 use Rattle.just_justfile.specs.declared.justfile.Justfile.{Justfile, out-Justfile}
 use Rattle.just_evaluate.specs.Destination.{submodule_aliased}
-use Rattle.just_invoke.specs.declared.lookup.Found.{Found}
 use Rattle.just_invoke.specs.declared.lookup.Found.TheVariants as found
 
 -- What a name may mean: a module, also by an alias; a recipe, also by an alias; a recipe or an alias that modules disable which have no file, told by their paths; an optional module without a file; or nothing.
@@ -50,12 +49,3 @@ meaning root recipes here name =
     (found_or disabled_recipe (disabling (out-Justfile here).disabled_recipes name)
     (found_or disabled_alias (disabling (out-Justfile here).aliases.disabled name)
     (if is_some (find name (out-Justfile here).absent_modules) then absent_module else nothing))))))
-
--- what a look-up has found
-abbrev pub meaning_of : Found → Meaning
-meaning_of (found.Module m) = a_module m.now
-meaning_of (found.Recipe r) = a_recipe r.now
-meaning_of (found.DisabledRecipe modules) = disabled_recipe (path_texts modules.now)
-meaning_of (found.DisabledAlias modules) = disabled_alias (path_texts modules.now)
-meaning_of found.AbsentModule = absent_module
-meaning_of found.Nothing = nothing

@@ -20,10 +20,9 @@ use Rattle.just_execution.specs.Reports.{IsRun, HasRunTrace}
 use Rattle.just_execution.specs.Scene.{running}
 use Rattle.just_scopes.specs.Open.{Opens}
 use Rattle.just_scopes.specs.Opening.{Opened, Setup, scene_of}
-use Rattle.just_invoke.specs.declared.invocation.Invocation as parsed
 use Rattle.just_justfile.specs.declared.justfile.Justfile.{Justfile}
 use Rattle.just_invoke.specs.Cause.{InvocationFault, cause_of}
-use Rattle.just_invoke.specs.Split.{Counts, Invoked, invoked_of, IsSplit, HasWordsFault}
+use Rattle.just_invoke.specs.Split.{Counts, Invoked, IsSplit, HasWordsFault}
 use Rattle.just_invoke.specs.Whole.{HasOpened, IsWholeRun}
 
 -- the task of what is invoked: it does not run as a dependency
@@ -33,9 +32,6 @@ top recipes i = task false (record { recipe = place_of recipes i.recipe.number.0
 -- the tasks that are run
 abbrev pub tops : List (Recipe Dependency) → List Invoked → List Task
 tops recipes invoked = map (top recipes) invoked
-
-abbrev pub tops_of : List (Recipe Dependency) → List parsed.Invocation → List Task
-tops_of recipes invocations = tops recipes (map invoked_of invocations)
 
 -- Why words are not run, where one invocation alone is allowed or not: they have a fault; they are several; or memory is refused.
 pub data IsRunRefusal (counts : Counts) (root : Justfile) (recipes : List (Recipe Dependency)) (words : List (List ℕ)) (one : Bool) : Error → Type 0 where
@@ -67,7 +63,3 @@ abbrev pub RunsAsExpected : Counts → Justfile → List (Recipe Dependency) →
 RunsAsExpected counts root recipes words config setup evaluator host old new result =
     (invoked : List Invoked) → IsRunnable counts root recipes words config.one invoked →
     (ended : Result Report Halt) × (result ≡ come_to ended) × IsWholeRun evaluator host setup root recipes (tops recipes invoked) old new ended
-
--- for the private functions: so many invocations are refused where one alone is allowed
-abbrev pub IsExcess : Bool → ℕ → Error → Type 0
-IsExcess one count e = (one ≡ true) × (1 < count) × (e ≡ Run (ExcessInvocations count))

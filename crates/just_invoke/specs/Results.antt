@@ -1,10 +1,9 @@
 -- For the private functions: what the run of tasks comes to.
-use Rattle.std.specs.Prelude.{◌≡◌, ◌⊎◌, List, Option, Result, Err}
+use Rattle.std.specs.Prelude.{◌≡◌, List, Option, Result, Err}
 use Rattle.just_errors.specs.Halts.{come_to, error_of}
 use Rattle.just_errors.specs.declared.error.Error.{Error}
 use Rattle.just_errors.specs.declared.error.Error.TheVariants.{Memory}
 use Rattle.just_errors.specs.declared.halt.Halt.{Halt}
-use Rattle.just_errors.specs.declared.halt.Halt.TheVariants as halt
 use Rattle.just_execution.specs.Reports.{TasksRunAsExpected, IsRun, HasRunTrace}
 use Rattle.just_execution.specs.Scene.{Scene, running}
 use Rattle.just_execution.specs.declared.run.Report.{Report}
@@ -24,12 +23,6 @@ use Rattle.just_invoke.specs.Whole.{HasOpened}
 pub record RunsInScene (evaluator : Inquiry → Option Answer) (host : Entry → Option Answer) (scene : Scene) (ts : List Task) (old new : Log) (ended : Result Report Halt) : Type 0 where
   pub taken : HasRunTrace evaluator host scene ts old new ended
   pub expected : TasksRunAsExpected evaluator host scene ts old new ended
-
--- in open modules tasks are not run for want of memory, and the log is as it was; or they are
-abbrev pub RunsOpen : (Inquiry → Option Answer) → (Entry → Option Answer) → Setup → List (Recipe Dependency) → List Opened → List Task → Log → Log → Result Report Halt → Type 0
-RunsOpen evaluator host setup recipes opened ts old new ended =
-    ((ended ≡ Err halt.Memory) × (new ≡ old))
-    ⊎ (IsRun (running setup.handed.config.no_dependencies recipes) ts old new ended × RunsInScene evaluator host (scene_of setup recipes opened) ts old new ended)
 
 -- tasks are not run for want of memory, and the log is as it was; the modules do not open; or they do, and the tasks are run in them
 pub data RunEndsAs (evaluator : Inquiry → Option Answer) (host : Entry → Option Answer) (setup : Setup) (root : Justfile) (recipes : List (Recipe Dependency)) (ts : List Task) (old new : Log) (result : Result Report Error) : Type 0 where

@@ -12,7 +12,8 @@ ghost use Rattle.just_run_layers.specs.Host.{KeepsPromises, executed};
 ghost use Rattle.just_run_layers.specs.Interactions.{HasTrace, both, log_of};
 ghost use Rattle.just_scopes.specs.Opening.{Inherited, handed_of, hands, opened_at, opened_of};
 ghost use Rattle.just_invoke.specs.Command as spec;
-ghost use Rattle.just_invoke.specs.Command.{IsProgramRun, IsProgramRunAsExpected, program_asked};
+ghost use Rattle.just_invoke.specs.Command.{IsProgramRun, IsProgramRunAsExpected};
+ghost use Rattle.just_invoke.specs.loops.Command.{program_asked};
 
 use just_data::{Chain, Sequence, Text};
 use just_errors::Refusal;

@@ -8,7 +8,8 @@ ghost use Rattle.just_recipe.specs.declared.recipe.Recipe.{Recipe};
 ghost use Rattle.just_run_layers.specs.Host.{KeepsPromises};
 ghost use Rattle.just_run_layers.specs.Interactions.{log_of};
 ghost use Rattle.just_scopes.specs.Opening.{handed_of};
-ghost use Rattle.just_invoke.specs.Evaluation.{IsEvaluation, IsEvaluationAsExpected, IsTextMade, IsTextWritten, values_behind, writer_of};
+ghost use Rattle.just_invoke.specs.Evaluation.{IsEvaluation, IsEvaluationAsExpected, IsTextWritten, writer_of};
+ghost use Rattle.just_invoke.specs.loops.Evaluation.{IsTextMade, values_behind};
 
 use just_data::Text;
 use just_evaluate::{

@@ -2,7 +2,8 @@
 ghost use Rattle.std.specs.Prelude.{◌≡◌, option_map};
 ghost use Rattle.std.specs.Option.{option_copied};
 ghost use Rattle.just_justfile.specs.Walks.{AreModulesOrdered};
-ghost use Rattle.just_invoke.specs.Meaning.{disabling, meaning, meaning_of, path_texts};
+ghost use Rattle.just_invoke.specs.Meaning.{disabling, meaning, path_texts};
+ghost use Rattle.just_invoke.specs.loops.Meaning.{meaning_of};
 
 use just_evaluate::submodule_aliased;
 use just_justfile::{Disabled, Justfile, find_module};

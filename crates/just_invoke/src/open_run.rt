@@ -11,8 +11,9 @@ ghost use Rattle.just_run_layers.specs.Interactions.{log_of};
 ghost use Rattle.just_scopes.specs.Open.{AreOpenModules};
 ghost use Rattle.just_scopes.specs.Opening.{opened_of, setup_of};
 ghost use Rattle.just_invoke.specs.declared.invocation.Invocation.{Invocation};
-ghost use Rattle.just_invoke.specs.Results.{RunsOpen, RunEndsAs};
-ghost use Rattle.just_invoke.specs.Outcome.{tops_of};
+ghost use Rattle.just_invoke.specs.Results.{RunEndsAs};
+ghost use Rattle.just_invoke.specs.loops.Results.{RunsOpen};
+ghost use Rattle.just_invoke.specs.loops.Outcome.{tops_of};
 
 use crate::invocation::Invocation;
 use crate::tops::name_tops;

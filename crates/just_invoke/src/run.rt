@@ -8,7 +8,8 @@ ghost use Rattle.just_run_layers.specs.Host.{KeepsPromises};
 ghost use Rattle.just_run_layers.specs.Interactions.{log_of};
 ghost use Rattle.just_run_layers.specs.LineTexts.{AgreesWith};
 ghost use Rattle.just_scopes.specs.Opening.{setup_of};
-ghost use Rattle.just_invoke.specs.Outcome.{IsExcess, IsOutcome, RunsAsExpected};
+ghost use Rattle.just_invoke.specs.Outcome.{IsOutcome, RunsAsExpected};
+ghost use Rattle.just_invoke.specs.loops.Outcome.{IsExcess};
 
 use crate::command_run::run_command;
 use crate::evaluate_run::run_evaluate;

@@ -3,7 +3,7 @@ ghost use Rattle.std.specs.List.{All};
 ghost use Rattle.just_execution.specs.Pairs.{AllBelow};
 ghost use Rattle.just_invoke.specs.declared.invocation.Invocation.{Invocation};
 ghost use Rattle.just_justfile.specs.Closed.{IsHeld};
-ghost use Rattle.just_invoke.specs.Outcome.{tops_of};
+ghost use Rattle.just_invoke.specs.loops.Outcome.{tops_of};
 
 use crate::groups::copy_groups;
 use crate::invocation::Invocation;

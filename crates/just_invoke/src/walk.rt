@@ -8,8 +8,10 @@ ghost use Rattle.just_justfile.specs.Closed.{default_recipe, resolved_name};
 ghost use Rattle.just_justfile.specs.Walks.{AreModulesOrdered};
 ghost use Rattle.just_justfile.specs.declared.justfile.Justfile.{out-Justfile};
 ghost use Rattle.just_invoke.specs.Cause.{cause_of, IsOfWords};
-ghost use Rattle.just_invoke.specs.Meaning.{meaning, meaning_of};
-ghost use Rattle.just_invoke.specs.Head.{goes_on, place_of, TakesDefault, NoDefault, BadName, IsStep, IsEnd, IsNoEnd, WordsLead, WordsMislead};
+ghost use Rattle.just_invoke.specs.Meaning.{meaning};
+ghost use Rattle.just_invoke.specs.loops.Meaning.{meaning_of};
+ghost use Rattle.just_invoke.specs.Head.{goes_on, place_of, TakesDefault, NoDefault, WordsLead, WordsMislead};
+ghost use Rattle.just_invoke.specs.loops.Head.{BadName, IsStep, IsEnd, IsNoEnd};
 
 use crate::lookup::{Found, look_up};
 use crate::texts::{names_text, path_texts, place_text};

@@ -2,3 +2,4 @@ pub mod Closed
 pub mod Module
 pub mod Running
 pub mod Walks
+pub mod loops

@@ -1,5 +1,5 @@
 -- Where paths lead from a module, through the modules in it.
-use Rattle.std.specs.Prelude.{◌≡◌, ◌≤◌, List, [], ◌∷◌, map, length, take, Option, None, Some, is_some, false, if◌then◌else◌}
+use Rattle.std.specs.Prelude.{List, [], ◌∷◌, map, Option, None, Some, is_some, false, if◌then◌else◌}
 use Rattle.std.specs.BTreeSet.{BTreeSet}
 use Rattle.std.specs.Cmp.Lexicographic.{slice_cmp}
 use Rattle.std.specs.List.{Contains, find as first_of}
@@ -17,8 +17,6 @@ use Rattle.just_justfile.specs.Module.{module_name}
 use Rattle.just_justfile.specs.declared.disabled.Disabled.{Disabled}
 use Rattle.just_justfile.specs.declared.justfile.Justfile.{Justfile, out-Justfile}
 use Rattle.just_justfile.specs.declared.justfile.RecipeKey.{RecipeKey}
-use Rattle.just_justfile.specs.declared.resolution.Reached.{Reached}
-use Rattle.just_justfile.specs.declared.resolution.Reached.TheVariants as reached
 use Rattle.just_justfile.specs.declared.resolution.Resolution.{Resolution}
 use Rattle.just_justfile.specs.declared.resolution.Resolution.TheVariants as resolution
 
@@ -126,15 +124,3 @@ module_by Nowhere absent modules path = None
 -- the module to which a path leads from a module with these absent modules and these in it
 abbrev pub resolved_module : List (Text × Text) → List Justfile → Namepath → Option (Resolution Modulepath)
 resolved_module absent modules path = module_by (end_of_names absent modules (map text_of_name path.front)) absent modules path
-
--- the absent modules where a walk is: in the module into which it led, or where it began
-abbrev pub absent_in : List (Text × Text) → Option Justfile → List (Text × Text)
-absent_in absent None = absent
-absent_in absent (Some j) = (out-Justfile j).absent_modules
-
--- what a walk along names answers: of a module without a file how many names lead to it
-abbrev pub IsReached : List Text → End → Reached → Type 0
-IsReached names end reached.Here = end ≡ Here
-IsReached names end (reached.Inside j) = end ≡ Inside j.now
-IsReached names end (reached.Absent count) = (count ≤ length names) × (end ≡ Absent (take count names))
-IsReached names end reached.Nowhere = end ≡ Nowhere

@@ -4,7 +4,8 @@ ghost use Rattle.std.specs.Option.{option_copied};
 ghost use Rattle.just_names.specs.Name.{text_of_name};
 ghost use Rattle.just_table.specs.Entries.{find};
 ghost use Rattle.just_paths.specs.declared.modulepath.Modulepath.{Modulepath};
-ghost use Rattle.just_justfile.specs.Walks.{AreOrdered, AreModulesOrdered, IsReached, absent_in, end_of_names, inner_along, module_at, module_named, only, path_along, recipe_under, resolved_module, resolved_recipe};
+ghost use Rattle.just_justfile.specs.Walks.{AreOrdered, AreModulesOrdered, end_of_names, inner_along, module_at, module_named, only, path_along, recipe_under, resolved_module, resolved_recipe};
+ghost use Rattle.just_justfile.specs.loops.Walks.{IsReached, absent_in};
 
 use crate::disabled::Disabled;
 use crate::justfile::{Justfile, RecipeKey};

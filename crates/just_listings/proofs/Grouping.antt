@@ -20,7 +20,8 @@ use Rattle.just_names.specs.Texts.{Text}
 use Rattle.just_recipe.specs.declared.dependency.Dependency.{Dependency}
 use Rattle.just_recipe.specs.declared.recipe.Recipe.{Recipe}
 use Rattle.just_listings.specs.Groups.{AreGroupsInOrder, AreGroupsOf, all_at, firsts, group_order, group_said, groups_said, itself}
-use Rattle.just_listings.specs.Order.{IsByKey, referents, placed_item, placed_at}
+use Rattle.just_listings.specs.Order.{IsByKey, referents, placed_item}
+use Rattle.just_listings.specs.loops.Order.{placed_at}
 use Rattle.just_listings.specs.declared.order.Place.{Place}
 use Rattle.just_listings.specs.declared.order.Placed.{Placed}
 use Rattle.just_listings.proofs.Listed.{behind_more}

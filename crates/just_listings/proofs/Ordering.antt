@@ -13,7 +13,8 @@ use Rattle.std.proofs.lemmas.List.Elements.{All-head, All-tail, filter_agree}
 use Rattle.std.proofs.lemmas.List.Sorted.{All-permutation, IsPermutation-map, length_permutation}
 use Rattle.std.specs.Borrow.{Bor}
 use Rattle.std.proofs.lemmas.Simd.{map-map}
-use Rattle.just_listings.specs.Order.{AreInAskedOrder, IsByKey, referents, item_behind, placed_item, placed_at, place_order}
+use Rattle.just_listings.specs.Order.{AreInAskedOrder, IsByKey, referents, placed_item, place_order}
+use Rattle.just_listings.specs.loops.Order.{item_behind, placed_at}
 use Rattle.just_listings.specs.declared.order.Place.{Place}
 use Rattle.just_listings.specs.declared.order.Placed.{Placed}
 

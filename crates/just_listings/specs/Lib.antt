@@ -6,3 +6,4 @@ pub mod Preorder
 pub mod Public
 pub mod Shown
 pub mod Unstable
+pub mod loops

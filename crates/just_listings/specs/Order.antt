@@ -24,15 +24,9 @@ AreInAskedOrder false key cmp xs ys = ys ≡ xs
 abbrev pub place_order : Place → Place → Ordering
 place_order a b = ordering_then (slice_cmp nat_cmp a.imports b.imports) (nat_cmp a.offset b.offset)
 
-abbrev pub placed_at : {T : Type 0} → Placed T → Place
-placed_at p = p.place
-
 abbrev pub placed_item : {T : Type 0} → Placed T → T
 placed_item p = p.item
 
 -- what references lead to
 abbrev pub referents : {X : Type 0} → List (Bor X) → List X
 referents {X} refs = map (λ (it : Bor X). it.now) refs
-
-abbrev pub item_behind : {X : Type 0} → Placed (Bor X) → X
-item_behind p = p.item.now

@@ -1,7 +1,8 @@
 //! The public modules of a module.
 ghost use Rattle.std.specs.Prelude.{◌≡◌, map, IfOk};
 ghost use Rattle.std.specs.List.{All, filter};
-ghost use Rattle.just_listings.specs.Order.{referents, item_behind};
+ghost use Rattle.just_listings.specs.Order.{referents};
+ghost use Rattle.just_listings.specs.loops.Order.{item_behind};
 ghost use Rattle.just_listings.specs.Public.{ArePublicModules, is_public_module, module_place};
 
 use crate::order::{Place, Placed, in_order, items_of};

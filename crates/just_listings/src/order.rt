@@ -1,6 +1,7 @@
 //! Lists in the order of a text.
 ghost use Rattle.std.specs.Prelude.{◌≡◌, map, IfOk};
-ghost use Rattle.just_listings.specs.Order.{AreInAskedOrder, placed_item, placed_at, place_order};
+ghost use Rattle.just_listings.specs.Order.{AreInAskedOrder, placed_item, place_order};
+ghost use Rattle.just_listings.specs.loops.Order.{placed_at};
 
 use just_data::Sequence;
 use std::alloc::{AllocError, Global};

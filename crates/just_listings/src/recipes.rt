@@ -3,7 +3,8 @@ ghost use Rattle.std.specs.Prelude.{◌≡◌, map, IfOk};
 ghost use Rattle.std.specs.List.{All, filter};
 ghost use Rattle.std.specs.Map.{values_of};
 ghost use Rattle.just_recipe_run.specs.Calls.{is_public};
-ghost use Rattle.just_listings.specs.Order.{referents, item_behind};
+ghost use Rattle.just_listings.specs.Order.{referents};
+ghost use Rattle.just_listings.specs.loops.Order.{item_behind};
 ghost use Rattle.just_listings.specs.Public.{ArePublicRecipes, recipe_place, recipes_named};
 
 use crate::order::{Place, Placed, in_order, items_of};

@@ -7,7 +7,7 @@ use Rattle.just_parts.specs.Syntax.{SyntaxAnswers, AttributesNameParameters, Ite
 use Rattle.just_parts.specs.Items.{Ast, Item}
 use Rattle.just_ast_items.specs.declared.item.Item.TheVariants as item
 use Rattle.just_source.specs.declared.source.Source.{Source}
-use Rattle.just_loader.specs.Reading.{IsBroughtIn, IsRead, IsReadBy, brought_in}
+use Rattle.just_loader.specs.loops.Reading.{IsBroughtIn, IsRead, IsReadBy, brought_in}
 
 same_bare : (source : Source) (i : Item) → bare_item (brought_in source i) ≡ bare_item i
 same_bare source (item.Recipe r) = refl

@@ -24,11 +24,11 @@ use Rattle.just_names.specs.declared.name.Namepath.{Namepath}
 use Rattle.just_source.specs.declared.source.Source.{Source}
 use Rattle.just_loader.specs.Keys.{FileStep}
 use Rattle.just_loader.specs.Loaded.{entered, names_in, names_on, own_after}
-use Rattle.just_loader.specs.Placed.{file_at, name_at, text_step}
-use Rattle.just_loader.specs.Loading.{AreNodes, AreUnfolded, CameInSoFar, CameInWorlds, ComesNext, components_after, folder_after}
-use Rattle.just_loader.specs.Numbering.{IsNamed}
+use Rattle.just_loader.specs.loops.Placed.{file_at, name_at, text_step}
+use Rattle.just_loader.specs.loops.Loading.{AreNodes, AreUnfolded, CameInSoFar, CameInWorlds, ComesNext, components_after, folder_after}
+use Rattle.just_loader.specs.loops.Numbering.{IsNamed}
 use Rattle.just_loader.specs.Reached.{World}
-use Rattle.just_loader.specs.Scanned.{EntersName, IsScan, paths_in}
+use Rattle.just_loader.specs.loops.Scanned.{EntersName, IsScan, paths_in}
 use Rattle.just_loader.specs.declared.scanned.Scan.{Scan}
 use Rattle.just_loader.specs.declared.scanned.ScannedFile.{ScannedFile}
 use Rattle.just_loader.proofs.FileKeys.{least_mapped, root_at, to_steps}

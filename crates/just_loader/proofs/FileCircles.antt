@@ -19,13 +19,14 @@ use Rattle.just_names.specs.Name.{text_of_name}
 use Rattle.just_parts.specs.Items.{Item}
 use Rattle.just_parts.specs.Bare.{bare_item}
 use Rattle.just_ast_items.specs.Edge.{Edge, Imports, Declares, edge_of}
-use Rattle.just_loader.specs.FileCircles.{HasRows, FileLeadsOn, by_edge, by_edges, ChainTo, at_root, and_next, BreaksCircle, leads_back}
+use Rattle.just_loader.specs.FileCircles.{ChainTo, at_root, and_next, BreaksCircle, leads_back}
+use Rattle.just_loader.specs.loops.FileCircles.{HasRows, FileLeadsOn, by_edge, by_edges}
 use Rattle.just_loader.specs.Keys.{FileStep, end_of_link, items_at, steps_by, steps_of_file}
-use Rattle.just_loader.specs.Placed.{file_at, text_step}
+use Rattle.just_loader.specs.loops.Placed.{file_at, text_step}
 use Rattle.just_loader.specs.Links.{Link, Nowhere, To, Fault, edge_link}
 use Rattle.just_loader.specs.Reached.{World, IsReachedFile, from_root, from_file, items_of_file, link, FileLeadsTo}
 use Rattle.just_errors.specs.Causes.{LeadsBack}
-use Rattle.just_loader.specs.Scanned.{IsScan, paths_in}
+use Rattle.just_loader.specs.loops.Scanned.{IsScan, paths_in}
 use Rattle.just_loader.specs.declared.scanned.Scan.{Scan}
 use Rattle.just_loader.specs.declared.scanned.ScannedFile.{ScannedFile}
 use Rattle.just_loader.proofs.FileRows.{at, said, steps_here}

@@ -12,11 +12,11 @@ use Rattle.just_graph.proofs.Trails.{steps_to}
 use Rattle.just_graph.proofs.Members.{In, contained, is_in, in_cases, in_map}
 use Rattle.just_names.specs.declared.name.Name.{Name}
 use Rattle.just_loader.specs.Keys.{FileKey, FileKeySteps, FileStep, IsKey, IsLeastFileDepth, root_file_key, steps_of_file}
-use Rattle.just_loader.specs.Loading.{AreUnfolded}
-use Rattle.just_loader.specs.Numbering.{IsNamed}
-use Rattle.just_loader.specs.Placed.{file_at, name_at, text_step}
+use Rattle.just_loader.specs.loops.Loading.{AreUnfolded}
+use Rattle.just_loader.specs.loops.Numbering.{IsNamed}
+use Rattle.just_loader.specs.loops.Placed.{file_at, name_at, text_step}
 use Rattle.just_loader.specs.Reached.{World}
-use Rattle.just_loader.specs.Scanned.{IsScan, paths_in}
+use Rattle.just_loader.specs.loops.Scanned.{IsScan, paths_in}
 use Rattle.just_loader.specs.declared.scanned.Scan.{Scan}
 use Rattle.just_loader.specs.declared.scanned.ScannedFile.{ScannedFile}
 use Rattle.just_loader.proofs.FileRows.{IsKnown, at, known_entered, named_here, steps_here}

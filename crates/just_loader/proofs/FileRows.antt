@@ -18,10 +18,10 @@ use Rattle.just_names.specs.declared.name.Name.{Name}
 use Rattle.just_parts.specs.Items.{Item}
 use Rattle.just_loader.specs.Keys.{FileStep, end_of_link, items_at, steps_by, steps_of_file}
 use Rattle.just_loader.specs.Links.{Link, Nowhere, To, Fault}
-use Rattle.just_loader.specs.Placed.{file_at, name_at, text_step}
-use Rattle.just_loader.specs.Numbering.{IsFirstAt, IsNamed, texts_of}
+use Rattle.just_loader.specs.loops.Placed.{file_at, name_at, text_step}
+use Rattle.just_loader.specs.loops.Numbering.{IsFirstAt, IsNamed, texts_of}
 use Rattle.just_loader.specs.Reached.{World, link}
-use Rattle.just_loader.specs.Scanned.{IsPlaceOf, ArePlacesOf, IsStepTo, IsStepOf, AreSteps, EntersName, IsScan, IsScanned, paths_in}
+use Rattle.just_loader.specs.loops.Scanned.{IsPlaceOf, ArePlacesOf, IsStepTo, IsStepOf, AreSteps, EntersName, IsScan, IsScanned, paths_in}
 use Rattle.just_loader.specs.declared.scanned.Scan.{Scan}
 use Rattle.just_loader.specs.declared.scanned.ScannedFile.{ScannedFile}
 use Rattle.just_loader.proofs.Numberings.{map_get, read_at}

@@ -9,10 +9,10 @@ use Rattle.just_parts.specs.Items.{Ast}
 use Rattle.just_parts.specs.Asts.{AstKey, same_ast_key}
 use Rattle.just_parts.proofs.AstKeys.{key_same}
 use Rattle.just_loader.specs.Loaded.{AreToldApart}
-use Rattle.just_loader.specs.Reading.{ShareNoNumbers}
-use Rattle.just_loader.specs.Placed.{file_at}
-use Rattle.just_loader.specs.Parsed.{AreKeyed, AreHeld, text_key}
-use Rattle.just_loader.specs.Scanned.{paths_in}
+use Rattle.just_loader.specs.loops.Reading.{ShareNoNumbers}
+use Rattle.just_loader.specs.loops.Placed.{file_at}
+use Rattle.just_loader.specs.loops.Parsed.{AreKeyed, AreHeld, text_key}
+use Rattle.just_loader.specs.loops.Scanned.{paths_in}
 use Rattle.just_loader.specs.declared.scanned.Scan.{Scan}
 use Rattle.just_loader.specs.declared.scanned.ScannedFile.{ScannedFile}
 use Rattle.just_loader.proofs.Numberings.{got, map_get, get_more, get_last, some_same, none_some}

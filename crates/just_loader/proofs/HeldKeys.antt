@@ -18,7 +18,8 @@ use Rattle.just_parts.specs.Items.{Ast, Item}
 use Rattle.just_ast_items.specs.declared.item.Item.TheVariants as item
 use Rattle.just_paths.specs.declared.modulepath.Modulepath.{Modulepath}
 use Rattle.just_source.specs.declared.source.Source.{Source}
-use Rattle.just_loader.specs.Keys.{FileKey, FileNode, FileStep, IsKey, IsLeastFileDepth, ast_key, end_of_link, items_at, key_of_ast, root_file_key, steps_by, steps_of_file}
+use Rattle.just_loader.specs.Keys.{FileKey, FileNode, FileStep, IsKey, IsLeastFileDepth, ast_key, end_of_link, items_at, root_file_key, steps_by, steps_of_file}
+use Rattle.just_loader.specs.loops.Keys.{key_of_ast}
 use Rattle.just_loader.specs.Links.{Link, Nowhere, To, Fault}
 use Rattle.just_loader.specs.Loaded.{IsAstOf, IsLoaded, path_of_link, with_path}
 use Rattle.just_loader.specs.Reached.{World, items_said, link}

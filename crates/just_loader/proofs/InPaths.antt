@@ -19,12 +19,12 @@ use Rattle.just_names.specs.Texts.{Text}
 use Rattle.just_parts.specs.Items.{Ast}
 use Rattle.just_loader.specs.Keys.{AreFirstFiles, FileNode, FileStep, ast_key, steps_of_file}
 use Rattle.just_loader.specs.Loaded.{IsAstOf, IsLoaded, at_first}
-use Rattle.just_loader.specs.Placed.{at_first_places, file_at, file_node, key_at, name_at, text_step}
-use Rattle.just_loader.specs.Loading.{AreParsed, KeepsLaws}
-use Rattle.just_loader.specs.Parsed.{AreHeld, relative_at}
+use Rattle.just_loader.specs.loops.Placed.{at_first_places, file_at, file_node, key_at, name_at, text_step}
+use Rattle.just_loader.specs.loops.Loading.{AreParsed, KeepsLaws}
+use Rattle.just_loader.specs.loops.Parsed.{AreHeld, relative_at}
 use Rattle.just_loader.specs.Reached.{World, relative_to_root}
-use Rattle.just_loader.specs.Reading.{ShareNoNumbers}
-use Rattle.just_loader.specs.Scanned.{IsScan}
+use Rattle.just_loader.specs.loops.Reading.{ShareNoNumbers}
+use Rattle.just_loader.specs.loops.Scanned.{IsScan}
 use Rattle.just_loader.specs.declared.scanned.Scan.{Scan}
 use Rattle.just_loader.proofs.FileKeys.{file_key, from_key, node_reached, root_at, root_inside, same_keys, step_inside}
 use Rattle.just_loader.proofs.FileRows.{at, steps_here}

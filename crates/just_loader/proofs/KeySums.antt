@@ -7,11 +7,12 @@ use Rattle.just_graph.specs.Unfolded.{unfolded_key, AreApart, AreReached}
 use Rattle.just_graph.specs.declared.unfolding.Unfolded.{Unfolded}
 use Rattle.just_graph.proofs.Members.{In, contained, is_in, in_cases, in_map, without}
 use Rattle.just_errors.specs.Causes.{Cause, NoNumber, Keeps}
-use Rattle.just_loader.specs.FileCircles.{FileLeadsOn, by_edge, by_edges, ChainTo, at_root, and_next, BreaksCircle, leads_back}
+use Rattle.just_loader.specs.FileCircles.{ChainTo, at_root, and_next, BreaksCircle, leads_back}
+use Rattle.just_loader.specs.loops.FileCircles.{FileLeadsOn, by_edge, by_edges}
 use Rattle.just_loader.specs.Keys.{IsKey, FileKey, spends_at, BreaksFiles, no_root, at_fault, in_circle, too_many}
-use Rattle.just_loader.specs.Placed.{file_at}
+use Rattle.just_loader.specs.loops.Placed.{file_at}
 use Rattle.just_loader.specs.Reached.{World, IsReachedFile, FileLeadsTo, BreaksInScan}
-use Rattle.just_loader.specs.Scanned.{IsScan}
+use Rattle.just_loader.specs.loops.Scanned.{IsScan}
 use Rattle.just_loader.specs.Sources.{text_at}
 use Rattle.just_loader.specs.declared.scanned.Scan.{Scan}
 use Rattle.just_loader.proofs.ComingIn.{get_take}

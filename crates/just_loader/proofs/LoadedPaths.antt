@@ -8,10 +8,10 @@ use Rattle.std.proofs.lemmas.List.Elements.{filter-append}
 use Rattle.std.proofs.lemmas.Option.{get_or_from_slice_get, slice_get_read}
 use Rattle.just_graph.specs.declared.unfolding.Unfolded.{Unfolded}
 use Rattle.just_graph.proofs.Members.{In, from_filter, in_left, in_right, in_cases}
-use Rattle.just_loader.specs.Placed.{at_first_places, file_at}
-use Rattle.just_loader.specs.Parsed.{relative_at}
+use Rattle.just_loader.specs.loops.Placed.{at_first_places, file_at}
+use Rattle.just_loader.specs.loops.Parsed.{relative_at}
 use Rattle.just_loader.specs.Reached.{World, relative_to_root}
-use Rattle.just_loader.specs.Scanned.{IsScan, paths_in}
+use Rattle.just_loader.specs.loops.Scanned.{IsScan, paths_in}
 use Rattle.just_loader.specs.declared.scanned.Scan.{Scan}
 use Rattle.just_loader.specs.declared.scanned.ScannedFile.{ScannedFile}
 use Rattle.just_loader.proofs.Numberings.{map_get, read_at}

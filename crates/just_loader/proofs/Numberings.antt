@@ -14,7 +14,7 @@ use Rattle.just_names.specs.declared.name.Name.{Name}
 use Rattle.just_loader.specs.Sources.{Files}
 use Rattle.just_loader.specs.declared.sources.SourceFile.{SourceFile}
 use Rattle.just_loader.specs.declared.index.Found.{Found}
-use Rattle.just_loader.specs.Numbering.{IsNumbering, IsFile, IsFirstAt, IsNamed, HaveFirst, AreFound, paths_of, texts_of}
+use Rattle.just_loader.specs.loops.Numbering.{IsNumbering, IsFile, IsFirstAt, IsNamed, HaveFirst, AreFound, paths_of, texts_of}
 use Rattle.just_names.proofs.SameTexts.{same_or_not}
 use Rattle.just_names.proofs.Indexing.{texts_apart}
 

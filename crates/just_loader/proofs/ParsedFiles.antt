@@ -16,10 +16,10 @@ use Rattle.just_errors.specs.declared.error.Error.TheVariants as error
 use Rattle.just_parts.proofs.Edges.{same_attributes, same_priors}
 use Rattle.just_loader.specs.Keys.{spends_at}
 use Rattle.just_loader.specs.Loaded.{path_of_link, with_path}
-use Rattle.just_loader.specs.Placed.{file_at}
-use Rattle.just_loader.specs.Loading.{IsScanBy, StopsAt}
+use Rattle.just_loader.specs.loops.Placed.{file_at}
+use Rattle.just_loader.specs.loops.Loading.{IsScanBy, StopsAt}
 use Rattle.just_loader.specs.Reached.{World, ast_of, items_said, link, relative_to_root}
-use Rattle.just_loader.specs.Scanned.{ArePlacesOf, IsScanned, paths_in}
+use Rattle.just_loader.specs.loops.Scanned.{ArePlacesOf, IsScanned, paths_in}
 use Rattle.just_loader.specs.declared.scanned.Scan.{Scan}
 use Rattle.just_loader.specs.declared.scanned.ScannedFile.{ScannedFile}
 use Rattle.just_loader.proofs.ComingIn.{path_is}

@@ -13,10 +13,10 @@ use Rattle.just_errors.specs.declared.error.Error.TheVariants as error
 use Rattle.just_source.specs.declared.source.Source.{Source}
 use Rattle.just_loader.specs.Keys.{spends_at}
 use Rattle.just_loader.specs.Loaded.{IsAstOf}
-use Rattle.just_loader.specs.Placed.{file_at, file_node}
-use Rattle.just_loader.specs.Loading.{AreNodes, AreParsedSoFar, AreSources, IsSaid, IsScanBy, Stops, StopsAt, spent_by}
+use Rattle.just_loader.specs.loops.Placed.{file_at, file_node}
+use Rattle.just_loader.specs.loops.Loading.{AreNodes, AreParsedSoFar, AreSources, IsSaid, IsScanBy, Stops, StopsAt, spent_by}
 use Rattle.just_loader.specs.Reached.{World}
-use Rattle.just_loader.specs.Scanned.{IsScan}
+use Rattle.just_loader.specs.loops.Scanned.{IsScan}
 use Rattle.just_loader.specs.declared.scanned.Scan.{Scan}
 use Rattle.just_loader.proofs.Numberings.{get_cases, none_some}
 

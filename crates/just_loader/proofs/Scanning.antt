@@ -8,7 +8,7 @@ use Rattle.just_names.specs.declared.name.Name.{Name}
 use Rattle.just_parts.specs.Items.{Item}
 use Rattle.just_ast_items.specs.Edge.{Edge, Imports, Declares, edge_of}
 use Rattle.just_loader.specs.Links.{Link, Nowhere, To, Fault}
-use Rattle.just_loader.specs.Scanned.{IsPlaceOf, ArePlacesOf, IsStepTo, IsStepOf, AreSteps, Grows, Extends, HasFault}
+use Rattle.just_loader.specs.loops.Scanned.{IsPlaceOf, ArePlacesOf, IsStepTo, IsStepOf, AreSteps, Grows, Extends, HasFault}
 use Rattle.just_errors.specs.Causes.{Cause}
 use Rattle.just_loader.proofs.Numberings.{get_more, map_get, got, named_more}
 use Rattle.std.proofs.lemmas.Option.{slice_get_read}

@@ -15,7 +15,7 @@ use Rattle.just_errors.specs.declared.error.Error.TheVariants as error
 use Rattle.just_loader.specs.Links.{Link, Nowhere, To, Fault, edge_link, link_in}
 use Rattle.just_loader.specs.Reached.{World, relative_to_root, items_of_file, items_said, link, HasItem, FileLeadsTo, BreaksAt, no_grammar, no_number, in_item}
 use Rattle.just_errors.specs.Causes.{Cause, Broken, Reports}
-use Rattle.just_loader.specs.Scanned.{ArePlacesOf, IsStepTo, IsStepOf, AreSteps, IsScanned}
+use Rattle.just_loader.specs.loops.Scanned.{ArePlacesOf, IsStepTo, IsStepOf, AreSteps, IsScanned}
 use Rattle.just_loader.specs.Sources.{Files, text_at}
 use Rattle.just_loader.specs.declared.scanned.ScannedFile.{ScannedFile}
 use Rattle.just_loader.specs.declared.sources.SourceFile.{SourceFile}

@@ -13,14 +13,15 @@ use Rattle.just_errors.specs.declared.error.Error.{Error}
 use Rattle.just_errors.specs.declared.error.Error.TheVariants as error
 use Rattle.just_parts.specs.Asts.{AstKey}
 use Rattle.just_errors.specs.Causes.{Keeps, Reports}
-use Rattle.just_loader.specs.FileCircles.{FileLeadsOn, BreaksCircle}
+use Rattle.just_loader.specs.FileCircles.{BreaksCircle}
+use Rattle.just_loader.specs.loops.FileCircles.{FileLeadsOn}
 use Rattle.just_loader.specs.Keys.{FileKey, BreaksFiles}
 use Rattle.just_loader.specs.Loaded.{Loads}
-use Rattle.just_loader.specs.Placed.{name_at}
-use Rattle.just_loader.specs.Loading.{AreParsed, Stops, spent_by}
-use Rattle.just_loader.specs.Parsed.{AreKeyed}
+use Rattle.just_loader.specs.loops.Placed.{name_at}
+use Rattle.just_loader.specs.loops.Loading.{AreParsed, Stops, spent_by}
+use Rattle.just_loader.specs.loops.Parsed.{AreKeyed}
 use Rattle.just_loader.specs.Reached.{World, IsReachedFile, BreaksInScan}
-use Rattle.just_loader.specs.Scanned.{IsScan}
+use Rattle.just_loader.specs.loops.Scanned.{IsScan}
 use Rattle.just_loader.specs.Sources.{text_at}
 use Rattle.just_loader.specs.declared.loaded.Loaded.{Loaded}
 use Rattle.just_loader.specs.declared.scanned.Scan.{Scan}

@@ -21,10 +21,10 @@ use Rattle.just_table.specs.Entries.{find}
 use Rattle.just_parts.specs.Items.{Item}
 use Rattle.just_ast_items.specs.Edge.{Edge, Imports, Declares, edge_of}
 use Rattle.just_loader.specs.Links.{Link, Nowhere, To, Fault}
-use Rattle.just_loader.specs.Numbering.{AreFound, paths_of}
+use Rattle.just_loader.specs.loops.Numbering.{AreFound, paths_of}
 use Rattle.just_loader.specs.Reached.{World, IsReachedFile, from_root, from_file, items_of_file, link, FileLeadsTo, BreaksAt, BreaksInScan}
 use Rattle.just_errors.specs.Causes.{Cause}
-use Rattle.just_loader.specs.Scanned.{IsPlaceOf, ArePlacesOf, IsStepTo, IsStepOf, AreSteps, IsScanned, AreScanned, IsScan, paths_in, Grows, Extends}
+use Rattle.just_loader.specs.loops.Scanned.{IsPlaceOf, ArePlacesOf, IsStepTo, IsStepOf, AreSteps, IsScanned, AreScanned, IsScan, paths_in, Grows, Extends}
 use Rattle.just_loader.specs.Sources.{Files}
 use Rattle.just_loader.specs.declared.index.Found.{Found}
 use Rattle.just_loader.specs.declared.scanned.Scan.{Scan}

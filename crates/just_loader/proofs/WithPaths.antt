@@ -9,10 +9,10 @@ use Rattle.just_parts.proofs.Edges.{same_numbers}
 use Rattle.just_parts.specs.Items.{Item}
 use Rattle.just_loader.specs.Links.{Link, Nowhere, To, Fault}
 use Rattle.just_loader.specs.Loaded.{path_of_link, with_path}
-use Rattle.just_loader.specs.Loading.{HavePaths}
-use Rattle.just_loader.specs.Placed.{file_at}
+use Rattle.just_loader.specs.loops.Loading.{HavePaths}
+use Rattle.just_loader.specs.loops.Placed.{file_at}
 use Rattle.just_loader.specs.Reached.{World, link}
-use Rattle.just_loader.specs.Scanned.{ArePlacesOf, IsPlaceOf, paths_in}
+use Rattle.just_loader.specs.loops.Scanned.{ArePlacesOf, IsPlaceOf, paths_in}
 use Rattle.just_loader.specs.declared.scanned.Scan.{Scan}
 use Rattle.just_loader.specs.declared.scanned.ScannedFile.{ScannedFile}
 

@@ -1,5 +1,5 @@
 -- What a file imports and which modules it declares, and the keys of files: the path of a module, and a file of it.
-use Rattle.std.specs.Prelude.{◌≡◌, ◌+◌, ℕ, false, List, [], ◌∷◌, map, unwrap_or, ◌<◌, ◌≤◌, ◌^◌, Option, None, Some}
+use Rattle.std.specs.Prelude.{◌≡◌, ℕ, false, List, [], ◌∷◌, map, unwrap_or, ◌<◌, ◌≤◌, ◌^◌, Option, None, Some}
 use Rattle.std.specs.List.{Contains, flat_map, sum_by}
 use Rattle.std.specs.Option.{option_map}
 use Rattle.just_graph.specs.Unfolding.{AreFirstOf, KeyOf, KeyStepsOf, NodeOf}
@@ -78,16 +78,9 @@ AreFirstFiles w = AreFirstOf (λ (s : FileStep). s.to) (λ (s : FileStep). s.off
 abbrev pub ast_key : FileKey → AstKey
 ast_key k = (record { components = k.path; spaced = false }, k.node)
 
-abbrev pub key_of_ast : AstKey → FileKey
-key_of_ast k = record { path = k.0.components; node = k.1 }
-
 -- how many numbers the text of the file at a path takes
 abbrev pub spends_at : World → Text → ℕ
 spends_at w f = unwrap_or (option_map (w.answers.spends (relative_to_root w f)) (text_at w.files f)) 0
-
--- so many lie between two numbers
-abbrev pub SpendsAt : World → Text → ℕ → ℕ → Type 0
-SpendsAt w f low high = high ≡ low + spends_at w f
 
 -- What is broken in the group of files: the root is no file, a reached file is at fault, one leads back to itself, or where no file is at fault and none leads back the texts of some keys take more numbers than there are.
 pub data BreaksFiles (w : World) : Cause → Type 0 where

@@ -2,12 +2,7 @@ pub mod FileCircles
 pub mod Keys
 pub mod Links
 pub mod Loaded
-pub mod Loading
 pub mod ModuleFile
-pub mod Numbering
-pub mod Parsed
-pub mod Placed
 pub mod Reached
-pub mod Reading
-pub mod Scanned
 pub mod Sources
+pub mod loops

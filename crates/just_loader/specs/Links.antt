@@ -81,9 +81,6 @@ link_in files home enabled folder i = if enabled (bare_item i) then edge_link fi
 abbrev pub link_by : Files → Config → SyntaxAnswers → Text → Item → Link
 link_by files config answers = link_in files config.home answers.enabled
 
-abbrev pub links_by : Files → Config → SyntaxAnswers → Text → List Item → List Link
-links_by files config answers folder = map (link_by files config answers folder)
-
 -- a path that may be there
 abbrev pub linked : Option Text → Link
 linked None = Nowhere

@@ -2,10 +2,11 @@
 
 ghost use Rattle.std.specs.Prelude.{◌≡◌, ◌<◌, ℕ, List, Some, length, slice_get, IfOk, IfErr, OnOk};
 ghost use Rattle.just_graph.specs.Unfolding.{IsOrdered};
-ghost use Rattle.just_loader.specs.FileCircles.{HasRows, FileLeadsOn, BreaksCircle};
+ghost use Rattle.just_loader.specs.FileCircles.{BreaksCircle};
+ghost use Rattle.just_loader.specs.loops.FileCircles.{HasRows, FileLeadsOn};
 ghost use Rattle.just_loader.specs.Reached.{World, IsReachedFile};
 ghost use Rattle.just_errors.specs.Causes.{Reports};
-ghost use Rattle.just_loader.specs.Scanned.{IsScan, paths_in};
+ghost use Rattle.just_loader.specs.loops.Scanned.{IsScan, paths_in};
 
 use crate::scanned::Scan;
 use just_data::Text;

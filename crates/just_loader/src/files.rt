@@ -11,12 +11,12 @@ ghost use Rattle.just_parts.specs.Syntax.{numbers};
 ghost use Rattle.just_parts.specs.Asts.{same_ast_key};
 ghost use Rattle.just_ast_items.specs.Edge.{with_absolute};
 ghost use Rattle.just_loader.specs.Loaded.{Loads};
-ghost use Rattle.just_loader.specs.Placed.{at_first_places, file_at};
-ghost use Rattle.just_loader.specs.Loading.{AreNodes, AreParsedBy, AreSources, AreUnfolded, CameInAt, CameInSoFar, ComesNext, HavePaths, InWorlds, IsSaid, IsScanBy, KeepsLaws, Stops, StopsInFile, spent_by};
-ghost use Rattle.just_loader.specs.Parsed.{AreHeld, AreKeyed, relative_at};
+ghost use Rattle.just_loader.specs.loops.Placed.{at_first_places, file_at};
+ghost use Rattle.just_loader.specs.loops.Loading.{AreNodes, AreParsedBy, AreSources, AreUnfolded, CameInAt, CameInSoFar, ComesNext, HavePaths, InWorlds, IsSaid, IsScanBy, KeepsLaws, Stops, StopsInFile, spent_by};
+ghost use Rattle.just_loader.specs.loops.Parsed.{AreHeld, AreKeyed, relative_at};
 ghost use Rattle.just_loader.specs.Reached.{World, link, world_of};
-ghost use Rattle.just_loader.specs.Reading.{ShareNoNumbers, AreRead, AreReadOf, TakesTextOf};
-ghost use Rattle.just_loader.specs.Scanned.{ArePlacesOf, EntersName, IsScan, paths_in};
+ghost use Rattle.just_loader.specs.loops.Reading.{ShareNoNumbers, AreRead, AreReadOf, TakesTextOf};
+ghost use Rattle.just_loader.specs.loops.Scanned.{ArePlacesOf, EntersName, IsScan, paths_in};
 
 use crate::circles::check_circles;
 use crate::loaded::Loaded;

@@ -2,7 +2,7 @@
 
 ghost use Rattle.std.specs.Prelude.{◌≡◌, ◌++◌, ◌∷◌, [], IsSome, Some, length, IfOk, OnOk, slice_get};
 ghost use Rattle.just_table.specs.Entries.{find};
-ghost use Rattle.just_loader.specs.Numbering.{AreFound, AreNumbered, HasAlso, IsNamed, paths_found};
+ghost use Rattle.just_loader.specs.loops.Numbering.{AreFound, AreNumbered, HasAlso, IsNamed, paths_found};
 ghost use Rattle.just_loader.specs.Sources.{Files};
 
 use crate::sources::{SourceFile, Sources};

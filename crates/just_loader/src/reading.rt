@@ -3,7 +3,7 @@
 ghost use Rattle.std.specs.Prelude.{◌≡◌, ◌≢◌, ◌^◌, ◌≤◌, [], None, Some, Ok, map, false, set, slice_get, IfErr, IfNone, IfOk, IfSome, IsErrOf, OnOk};
 ghost use Rattle.just_parts.specs.Syntax.{Refuses, components_of, numbers};
 ghost use Rattle.just_parts.specs.Items.{Ast};
-ghost use Rattle.just_loader.specs.Reading.{IsBroughtIn, IsRead, IsReadBy, TakesText, brought_in, takes};
+ghost use Rattle.just_loader.specs.loops.Reading.{IsBroughtIn, IsRead, IsReadBy, TakesText, brought_in, takes};
 
 use crate::scanned::ScannedFile;
 use just_data::Sequence;

@@ -5,13 +5,14 @@ ghost use Rattle.just_parts.specs.Bare.{bare_item};
 ghost use Rattle.just_paths.specs.Clean.{IsClean};
 ghost use Rattle.just_table.specs.Entries.{find};
 ghost use Rattle.just_parts.specs.Syntax.{Refuses};
-ghost use Rattle.just_loader.specs.Links.{To, Fault, link_by, links_by};
-ghost use Rattle.just_loader.specs.Numbering.{AreFound, AreNumbered, IsFile, paths_found};
+ghost use Rattle.just_loader.specs.Links.{To, Fault, link_by};
+ghost use Rattle.just_loader.specs.loops.Links.{links_by};
+ghost use Rattle.just_loader.specs.loops.Numbering.{AreFound, AreNumbered, IsFile, paths_found};
 ghost use Rattle.just_loader.specs.Reached.{FileLeadsTo, BreaksAt, BreaksInScan, items_said, world_of};
 ghost use Rattle.just_errors.specs.Causes.{Keeps, Reports};
 ghost use Rattle.just_loader.specs.Sources.{text_at};
-ghost use Rattle.just_loader.specs.Reading.{AreRead, GoesOn};
-ghost use Rattle.just_loader.specs.Scanned.{ArePlacesIn, IsPlaceOf, AreSteps, IsScannedIn, IsScan, Finds, FindsAll, Extends, HasAlsoSteps, HasFault};
+ghost use Rattle.just_loader.specs.loops.Reading.{AreRead, GoesOn};
+ghost use Rattle.just_loader.specs.loops.Scanned.{ArePlacesIn, IsPlaceOf, AreSteps, IsScannedIn, IsScan, Finds, FindsAll, Extends, HasAlsoSteps, HasFault};
 
 use crate::index::{Found, NameNumbers};
 use crate::links::link;

@@ -11,7 +11,8 @@ use Rattle.just_justfile.specs.declared.aliases.Aliases.{Aliases}
 use Rattle.just_module_contents.specs.Recipes.{lent}
 use Rattle.just_module_contents.specs.Rules.{unknown_target}
 use Rattle.just_module_contents.proofs.RecipePlaces.{length-lent}
-use Rattle.just_module_aliases.specs.Aliased.{IsAdded, Targets, UnknownTarget, UnknownTargets, aliases_of, aliases_onto, as_disabled, as_module_alias, as_recipe_alias, disabled_among, alias_meant, modules_among, name_of_alias, name_of_disabled_alias, no_aliases, no_meaning, recipes_among}
+use Rattle.just_module_aliases.specs.Aliased.{Targets, UnknownTargets, aliases_of, aliases_onto, as_disabled, as_module_alias, as_recipe_alias, disabled_among, alias_meant, modules_among, name_of_alias, name_of_disabled_alias, no_aliases, recipes_among}
+use Rattle.just_module_aliases.specs.loops.Aliased.{IsAdded, UnknownTarget, no_meaning}
 use Rattle.just_module_aliases.specs.declared.aliases.Meaning.{Meaning}
 use Rattle.just_names.specs.Name.{text_of_name}
 use Rattle.just_names.specs.Texts.{Text}

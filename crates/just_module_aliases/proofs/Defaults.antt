@@ -13,7 +13,8 @@ use Rattle.just_recipe.specs.declared.recipe.Recipe.{Recipe}
 use Rattle.just_recipe.specs.Recipes.{find_number, numbers}
 use Rattle.just_recipes.proofs.Places.{found-number}
 use Rattle.just_names.specs.declared.number.Number.{Number}
-use Rattle.just_module_contents.specs.Defaults.{IsBefore, IsBetter, IsDefault, IsDefaultPlace, IsMarked, IsMarkedPlace}
+use Rattle.just_module_contents.specs.Defaults.{IsBefore, IsDefault, IsDefaultPlace, IsMarked}
+use Rattle.just_module_contents.specs.loops.Defaults.{IsBetter, IsMarkedPlace}
 use Rattle.just_module_contents.specs.Recipes.{name_of, line_of, recipe_at}
 use Rattle.just_module_aliases.proofs.Later.{cmp, greater_not_less}
 use Rattle.just_module_contents.specs.Resolved.{number_at}

@@ -11,7 +11,8 @@ use Rattle.just_errors.specs.declared.compile_error.CompileErrorKind.TheVariants
 use Rattle.just_names.specs.Token.{Place}
 use Rattle.just_recipe.specs.declared.dependency.UnresolvedDependency.{UnresolvedDependency}
 use Rattle.just_recipe.specs.declared.recipe.Recipe.{Recipe}
-use Rattle.just_module_contents.specs.Defaults.{BreaksDefaults, IsLater, IsMarkedPlace, NoneMarked, duplicate_default, is_marked}
+use Rattle.just_module_contents.specs.Defaults.{BreaksDefaults, IsLater, NoneMarked, duplicate_default, is_marked}
+use Rattle.just_module_contents.specs.loops.Defaults.{IsMarkedPlace}
 use Rattle.just_module_contents.specs.Recipes.{line_of, name_of, recipe_at, token_of}
 
 abbrev pub cmp : List ℕ → List ℕ → Ordering

@@ -1,8 +1,7 @@
 -- What the aliases of a module mean, over what the module has and the compiled modules in it.
-use Rattle.std.specs.Prelude.{◌≡◌, ◌≢◌, List, [], ◌∷◌, flat_map, Option, None, Some}
+use Rattle.std.specs.Prelude.{◌≢◌, List, [], ◌∷◌, flat_map, Option, None, Some}
 use Rattle.just_ast_definitions.specs.declared.alias.Alias.{Alias}
-use Rattle.just_errors.specs.Causes.{Cause, Broken}
-use Rattle.just_errors.specs.declared.compile_error.CompileErrorKind.TheVariants as kind
+use Rattle.just_errors.specs.Causes.{Cause}
 use Rattle.just_justfile.specs.Walks.{resolved_module, resolved_recipe}
 use Rattle.just_justfile.specs.declared.aliases.Aliases.{Aliases}
 use Rattle.just_justfile.specs.declared.disabled.Disabled.{Disabled}
@@ -106,16 +105,6 @@ with_meaning before alias it = record {
   modules = put_all name_of_alias before.modules (as_module_alias alias (Some it));
   recipes = put_all name_of_alias before.recipes (as_recipe_alias alias (Some it));
 }
-
--- an alias means something, and is added to tables
-pub record IsAdded (t : Targets) (alias : Alias Namepath) (before after : Aliases) : Type 0 where
-  pub it : Meaning
-  pub means : alias_meant t alias.target ≡ Some it
-  pub is : after ≡ with_meaning before alias it
-
--- The target of an alias means nothing. It is told at the alias's name.
-pub data UnknownTarget (t : Targets) (alias : Alias Namepath) : Cause → Type 0 where
-  no_meaning : alias_meant t alias.target ≡ None → UnknownTarget t alias (Broken alias.name.token (kind.UnknownAliasTarget (text_of_name alias.name) alias.target))
 
 -- that of one of these aliases does
 abbrev pub UnknownTargets : Targets → List (Alias Namepath) → Cause → Type 0

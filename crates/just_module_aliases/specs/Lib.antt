@@ -1,1 +1,2 @@
 pub mod Aliased
+pub mod loops

@@ -3,7 +3,8 @@
 ghost use Rattle.std.specs.Prelude.{◌≡◌, IfErr, IfOk, OnOk};
 ghost use Rattle.just_errors.specs.Causes.{Keeps, Reports};
 ghost use Rattle.just_module_contents.specs.Definitions.{aliases_in};
-ghost use Rattle.just_module_aliases.specs.Aliased.{IsAdded, UnknownTarget, UnknownTargets, aliases_of, as_recipe, alias_meant, targets, with_meaning};
+ghost use Rattle.just_module_aliases.specs.Aliased.{UnknownTargets, aliases_of, as_recipe, alias_meant, targets, with_meaning};
+ghost use Rattle.just_module_aliases.specs.loops.Aliased.{IsAdded, UnknownTarget};
 ghost use Rattle.just_justfile.specs.Walks.{AreOrdered, resolved_recipe};
 
 use just_data::BorrowedText;

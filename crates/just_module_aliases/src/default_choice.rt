@@ -3,7 +3,8 @@
 ghost use Rattle.std.specs.Prelude.{◌≡◌, ◌<◌, false, IsTrue, IfErr, IfOk, IfSome, OnOk, Some, length};
 ghost use Rattle.just_errors.specs.Causes.{Keeps, Reports};
 ghost use Rattle.just_recipe.specs.Recipes.{numbers};
-ghost use Rattle.just_module_contents.specs.Defaults.{BreaksDefaults, IsBefore, IsBetter, IsDefaultBy, IsDefaultOf, IsDefaultPlace};
+ghost use Rattle.just_module_contents.specs.Defaults.{BreaksDefaults, IsBefore, IsDefaultBy, IsDefaultOf, IsDefaultPlace};
+ghost use Rattle.just_module_contents.specs.loops.Defaults.{IsBetter};
 ghost use Rattle.just_module_contents.specs.Definitions.{recipes_in};
 ghost use Rattle.just_module_contents.specs.Named.{recipes_by};
 

@@ -2,7 +2,8 @@
 ghost use Rattle.std.specs.Prelude.{◌≡◌, ◌≢◌, ◌<◌, true, length, IsTrue, false, IfErr, IfOk, OnOk};
 ghost use Rattle.std.specs.List.{list_any};
 ghost use Rattle.just_errors.specs.Causes.{Broken, Keeps, Reports};
-ghost use Rattle.just_module_contents.specs.Defaults.{BreaksDefaults, IsLater, IsMarkedPlace, is_default, is_marked};
+ghost use Rattle.just_module_contents.specs.Defaults.{BreaksDefaults, IsLater, is_default, is_marked};
+ghost use Rattle.just_module_contents.specs.loops.Defaults.{IsMarkedPlace};
 ghost use Rattle.just_module_contents.specs.Definitions.{recipes_in};
 ghost use Rattle.just_module_contents.specs.Recipes.{recipe_at};
 

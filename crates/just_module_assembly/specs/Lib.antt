@@ -1,3 +1,4 @@
 pub mod Noted
 pub mod Paths
 pub mod Targets
+pub mod loops

@@ -9,7 +9,8 @@ use Rattle.std.proofs.lemmas.List.Folds.{list_any_at, list_any_none}
 use Rattle.std.proofs.lemmas.Slice.Eq.{bytes_eq-Decides}
 use Rattle.just_names.specs.Texts.{Text}
 use Rattle.just_names.proofs.SameTexts.{same_or_not}
-use Rattle.just_module_contents.specs.Kept.{IsBest, IsBestIndex, IsBestOf, IsBestSoFar, claim_at, is_outdone, lies_above, lies_beside, no_claim, outdoes, stays}
+use Rattle.just_module_contents.specs.Kept.{lies_above, lies_beside}
+use Rattle.just_module_contents.specs.loops.Kept.{IsBest, IsBestIndex, IsBestOf, IsBestSoFar, claim_at, is_outdone, no_claim, outdoes, stays}
 use Rattle.just_module_contents.specs.declared.precedence.Claim.{Claim}
 
 pub both_false : (a b : Bool) → (a ≡ true → b ≡ true → ⊥) → (a && b) ≡ false

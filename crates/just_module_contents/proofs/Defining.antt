@@ -18,7 +18,8 @@ use Rattle.just_recipe.specs.declared.recipe.Recipe.{Recipe}
 use Rattle.just_module_contents.specs.Contents.{Contents, Defined, all_defined, defined_in, defined_naming, defined_recipe, function_texts, signatures, texts_of_defined, texts_of_named, variable_names}
 use Rattle.just_module_contents.specs.declared.definitions.Naming.{Naming}
 use Rattle.just_module_contents.specs.declared.definitions.Naming.TheVariants as naming
-use Rattle.just_names.specs.Index.{texts_of_names, AreApart, AreDifferent, IsLast, NoneRepeats, Repeats, name_at}
+use Rattle.just_names.specs.Index.{texts_of_names, AreDifferent, IsLast, NoneRepeats, Repeats, name_at}
+use Rattle.just_names.specs.loops.Index.{AreApart}
 use Rattle.just_module_contents.specs.Recipes.{name_of, names_of}
 use Rattle.just_module_contents.specs.Settings.{Conflicts, allows_variables}
 use Rattle.just_module_contents.specs.Shells.{BreaksShells}

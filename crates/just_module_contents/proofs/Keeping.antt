@@ -15,7 +15,8 @@ use Rattle.just_names.specs.Texts.{Text}
 use Rattle.just_recipe.specs.declared.dependency.UnresolvedDependency.{UnresolvedDependency}
 use Rattle.just_recipe.specs.declared.recipe.Recipe.{Recipe}
 use Rattle.just_names.specs.Index.{AreDifferent, name_at}
-use Rattle.just_module_contents.specs.Kept.{claim_at, claim_of_recipe, gives_way, kept, kept_recipes, left_of, lies_above, lies_beside, no_claim, stays}
+use Rattle.just_module_contents.specs.Kept.{claim_of_recipe, gives_way, kept, kept_recipes, left_of, lies_above, lies_beside}
+use Rattle.just_module_contents.specs.loops.Kept.{claim_at, no_claim, stays}
 use Rattle.just_module_contents.specs.Recipes.{names_of}
 use Rattle.just_module_contents.specs.Resolved.{unresolved_numbers}
 use Rattle.just_module_contents.specs.declared.precedence.Claim.{Claim}

@@ -9,7 +9,8 @@ use Rattle.just_recipe.specs.declared.recipe.Recipe.{Recipe}
 use Rattle.just_errors.specs.declared.compile_error.CompileErrorKind.TheVariants as kind
 use Rattle.just_names.specs.Name.{text_of_name}
 use Rattle.just_names.specs.declared.name.Name.{Name}
-use Rattle.just_module_contents.specs.Recipes.{FollowsDefault, NoneFollows, name_of, named_parameters, parameter_names, lent, no_recipe, recipe_at, names_of}
+use Rattle.just_module_contents.specs.Recipes.{FollowsDefault, name_of, named_parameters, parameter_names, lent, no_recipe, recipe_at, names_of}
+use Rattle.just_module_contents.specs.loops.Recipes.{NoneFollows}
 use Rattle.just_module_contents.specs.Resolved.{number_at}
 use Rattle.just_names.specs.Index.{name_at, Repeats, AreDifferent}
 use Rattle.just_errors.specs.Causes.{Cause, Broken}

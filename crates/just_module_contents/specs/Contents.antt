@@ -1,5 +1,5 @@
 -- What the rules read of a module.
-use Rattle.std.specs.Prelude.{List, [], ◌∷◌, ◌++◌, map}
+use Rattle.std.specs.Prelude.{List, [], ◌++◌, map}
 use Rattle.just_names.specs.Texts.{Text}
 use Rattle.just_names.specs.Name.{text_of_name}
 use Rattle.just_names.specs.declared.name.Name.{Name}
@@ -57,14 +57,6 @@ variable_names = map (λ (a : Assignment). a.name)
 -- the same contents, with more that needs lists
 abbrev pub with_lists : Contents → List ListUse → Contents
 with_lists m uses = record m { lists = m.lists ++ uses }
-
--- the same contents, with one more module, and what its doc is evaluated from
-abbrev pub with_module : Contents → Name → List Expression → Contents
-with_module m name docs = record m { modules = m.modules ++ name ∷ []; docs = m.docs ++ docs }
-
--- the same contents, with more that is defined under a name beside recipes
-abbrev pub with_named : Contents → List Naming → Contents
-with_named m ns = record m { named = m.named ++ ns }
 
 -- of a module without files
 abbrev pub no_contents : Contents

@@ -1,5 +1,5 @@
 -- The recipes that are run by default, and their rule.
-use Rattle.std.specs.Prelude.{◌≡◌, ◌≢◌, ◌⊎◌, ℕ, ◌<◌, ◌≤◌, Bool, true, false, List, length, Option, None, Some}
+use Rattle.std.specs.Prelude.{◌≡◌, ◌≢◌, ℕ, ◌<◌, ◌≤◌, Bool, true, false, List, length, Option, None, Some}
 use Rattle.std.specs.Cmp.Lexicographic.{slice_cmp}
 use Rattle.std.specs.List.{Contains, list_any}
 use Rattle.std.specs.Option.{option_map}
@@ -42,20 +42,10 @@ pub data BreaksDefaults (recipes : List (Recipe UnresolvedDependency)) : Cause �
   duplicate_default : (i j : ℕ) → i < length recipes → j < length recipes → i ≢ j → is_marked (recipe_at recipes i) ≡ true → is_marked (recipe_at recipes j) ≡ true
       → IsLater (recipe_at recipes i) (recipe_at recipes j) → BreaksDefaults recipes (Broken (token_of (recipe_at recipes j)) (kind.DuplicateDefault (name_of (recipe_at recipes j))))
 
--- the first n recipes have it at a place and nowhere else, if there is one
-abbrev pub IsMarkedPlace : List (Recipe UnresolvedDependency) → ℕ → Option ℕ → Type 0
-IsMarkedPlace recipes n None = (k : ℕ) → k < n → is_marked (recipe_at recipes k) ≡ false
-IsMarkedPlace recipes n (Some place) = (place < n) × (is_marked (recipe_at recipes place) ≡ true) × ((k : ℕ) → k < n → k ≢ place → is_marked (recipe_at recipes k) ≡ false)
-
 -- a stands on a smaller line than b, or on the same with a name that is no less
 pub record IsBefore (a b : Recipe UnresolvedDependency) : Type 0 where
   pub line : line_of a ≤ line_of b
   pub name : line_of a ≡ line_of b → slice_cmp nat_cmp (name_of a) (name_of b) ≢ Less
-
--- of two recipes by their places, or of one, the default
-abbrev pub IsBetter : List (Recipe UnresolvedDependency) → Option ℕ → ℕ → ℕ → Type 0
-IsBetter own None place result = result ≡ place
-IsBetter own (Some best) place result = ((result ≡ best) ⊎ (result ≡ place)) × IsBefore (recipe_at own result) (recipe_at own best) × IsBefore (recipe_at own result) (recipe_at own place)
 
 -- Of the first n recipes of the own file those that are resolved: none stands on a smaller line than the one at a place, and none on the same line has a greater name.
 pub record IsDefault (resolved : List ℕ) (own : List (Recipe UnresolvedDependency)) (n place : ℕ) : Type 0 where

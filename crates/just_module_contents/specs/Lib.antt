@@ -17,3 +17,4 @@ pub mod Said
 pub mod Settings
 pub mod Shells
 pub mod Standing
+pub mod loops

@@ -47,10 +47,6 @@ pub record FollowsDefault (parameters : List Parameter) (place : ℕ) : Type 0 w
   pub defaulted : get_or (map is_defaulted parameters) before false ≡ true
   pub needed : get_or (map is_needed parameters) place false ≡ true
 
--- no parameter that needs a word follows one with a default
-abbrev pub NoneFollows : List Parameter → Type 0
-NoneFollows parameters = (place : ℕ) → FollowsDefault parameters place → ⊥
-
 -- its dependencies by their paths, and the texts of these
 abbrev pub named_paths : Recipe UnresolvedDependency → List Namepath
 named_paths recipe = map (λ d. d.recipe) recipe.dependencies

@@ -107,7 +107,8 @@ pub struct Definitions<'src, 'a> {
 
 impl<'a, 'src> Definitions<'src, 'a> {
     ghost use Rattle.std.specs.Prelude.{◌≡◌, ◌++◌, ◌<◌, [], IfOk, OnOk, Some, length, map, option_to_list, slice_get};
-    ghost use Rattle.just_module_contents.specs.Contents.{defined, defined_naming, function_names, no_contents, signatures, with_lists, with_module, with_named};
+    ghost use Rattle.just_module_contents.specs.Contents.{defined, defined_naming, function_names, no_contents, signatures, with_lists};
+    ghost use Rattle.just_module_contents.specs.loops.Contents.{with_module, with_named};
     ghost use Rattle.just_module_contents.specs.Recipes.{recipe_at, recipes_of};
     ghost use Rattle.just_module_contents.specs.Definitions.{aliases_in, contents_in, docs_in, functions_in, lists_in, recipes_in, sets_in, variables_in};
     ghost use Rattle.just_module_contents.specs.Named.{alias_by, function_by, name_by, naming_by, set_by, unexported_by, variable_by};

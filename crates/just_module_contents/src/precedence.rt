@@ -4,7 +4,8 @@ ghost use Rattle.std.specs.Prelude.{◌≡◌, ◌<◌, IfOk, length, map};
 ghost use Rattle.std.specs.Str.{bytes_eq};
 ghost use Rattle.std.specs.HashMap.{get};
 ghost use Rattle.just_module_contents.specs.Definitions.{recipes_in, variables_in};
-ghost use Rattle.just_module_contents.specs.Kept.{IsBestIndex, IsBestSoFar, claim_of_recipe, claim_of_variable, is_outdone, kept_recipes, kept_variables, stays};
+ghost use Rattle.just_module_contents.specs.Kept.{claim_of_recipe, claim_of_variable, kept_recipes, kept_variables};
+ghost use Rattle.just_module_contents.specs.loops.Kept.{IsBestIndex, IsBestSoFar, is_outdone, stays};
 ghost use Rattle.just_module_contents.specs.Recipes.{lent};
 
 use crate::definitions::Definitions;

@@ -3,7 +3,8 @@ use Rattle.std.proofs.Common.{◌≡◌, ℕ, ◌+◌, ◌<◌, ◌≤◌, ◌�
 use Rattle.std.proofs.lemmas.Bool.{cases_lt, false≢true}
 use Rattle.std.proofs.lemmas.List.{get_or-map, get_or_past, length-map}
 use Rattle.just_ast_definitions.specs.declared.parameter.Parameter.{Parameter}
-use Rattle.just_module_contents.specs.Recipes.{FollowsDefault, NoneFollows, is_defaulted, is_needed}
+use Rattle.just_module_contents.specs.Recipes.{FollowsDefault, is_defaulted, is_needed}
+use Rattle.just_module_contents.specs.loops.Recipes.{NoneFollows}
 
 -- Whether one of the first n parameters has a default; and none of them that needs a word follows one.
 pub record Passed (ps : List Parameter) (n : ℕ) (passed : Bool) : Type 0 where

@@ -14,7 +14,8 @@ use Rattle.just_graph.proofs.Targets.{targets_at}
 use Rattle.just_graph.specs.Graph.{HasEdge, IsGraph}
 use Rattle.just_graph.specs.Steps.{IsCircle, IsWalk, Reached, from_start, from_member}
 use Rattle.just_graph.proofs.Members.{In, contained, from_flat, is_in}
-use Rattle.just_module_headers.specs.Joined.{AreGraphs, AreJoined, IsJoined, StaysJoined}
+use Rattle.just_module_headers.specs.Joined.{AreGraphs, AreJoined, IsJoined}
+use Rattle.just_module_headers.specs.loops.Joined.{StaysJoined}
 use Rattle.just_module_headers.specs.declared.files.Rows.{Rows}
 use Rattle.just_module_headers.specs.declared.join.Joined.{Joined}
 

@@ -4,8 +4,6 @@ use Rattle.std.specs.Borrow.{Bor}
 use Rattle.std.specs.HashMap.{get}
 use Rattle.std.specs.List.{AllByRecursion, IsDistinct}
 use Rattle.std.specs.Map.{keys_of, values_of}
-use Rattle.std.specs.declared.alloc.Global.{Global}
-use Rattle.std.specs.declared.vec.Vec.{Vec}
 use Rattle.just_graph.specs.Building.{EachRow}
 use Rattle.just_parts.specs.Asts.{AstKey, same_ast_key}
 use Rattle.just_parts.specs.Bare.{bare_item}
@@ -45,9 +43,6 @@ led_by inside enabled path i = if enabled (bare_item i) then led inside path i e
 abbrev pub all_led : Bool → (Item → Bool) → Modulepath → List Item → List AstKey
 all_led inside enabled path items = flat_map (led_by inside enabled path) items
 
-abbrev pub led_of : Bool → (Item → Bool) → Ast → List AstKey
-led_of inside enabled ast = all_led inside enabled ast.module_path ast.items
-
 abbrev pub led_in : Bool → (Item → Bool) → Option Ast → List AstKey
 led_in inside enabled None = []
 led_in inside enabled (Some ast) = all_led inside enabled ast.module_path ast.items
@@ -63,10 +58,6 @@ HoldsAll table found = AllByRecursion (λ k. IsSome (table k)) found
 -- the places that a table has for keys
 abbrev pub AreKeyPlaces : (AstKey → Option ℕ) → List AstKey → List ℕ → Type 0
 AreKeyPlaces table found places = map table found ≡ map Some places
-
--- a row of places for each file: those of the keys to which its items lead
-abbrev pub AreRowsOf : Bool → (Item → Bool) → Files → List (Vec ℕ Global) → Type 0
-AreRowsOf inside enabled files rows = EachRow (λ p row. AreKeyPlaces (get same_ast_key files.places) (led_from inside enabled (asts_in files) p) row) (length files.asts.items) rows
 
 -- the keys to which items lead have places
 abbrev pub HoldsEach : (Item → Bool) → Files → Type 0

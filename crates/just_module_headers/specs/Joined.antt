@@ -25,10 +25,6 @@ pub record AreJoined (rows : Rows) (n : ℕ) (joined : Joined) : Type 0 where
   pub modules : length joined.modules.items ≡ n
   pub each : (a : ℕ) → ((targets joined.files.items a ≡ []) × (targets joined.modules.items a ≡ [])) ⊎ IsJoined rows joined a
 
--- what was joined stays
-abbrev pub StaysJoined : Rows → Joined → Joined → Type 0
-StaysJoined rows old new = (a : ℕ) → IsJoined rows old a → IsJoined rows new a
-
 -- The modules that are reached from the root's are joined, and listed, those in a module before it.
 pub record AreArranged (rows : Rows) (root : ℕ) (joined : Joined) (order : List ℕ) : Type 0 where
   pub all : AreJoined rows (length rows.imports.items) joined

@@ -3,3 +3,4 @@ pub mod Files
 pub mod Joined
 pub mod OfPlaces
 pub mod Reading
+pub mod loops

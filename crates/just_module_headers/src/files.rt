@@ -5,7 +5,8 @@ ghost use Rattle.std.specs.HashMap.{get};
 ghost use Rattle.std.specs.Option.{option_to_list};
 ghost use Rattle.just_graph.specs.Building.{EachRow};
 ghost use Rattle.just_parts.specs.Asts.{same_ast_key};
-ghost use Rattle.just_module_headers.specs.Files.{ArePlaced, AreKeyPlaces, AreRows, AreRowsOf, HoldsAll, HoldsEach, asts_in, led, led_from, led_of};
+ghost use Rattle.just_module_headers.specs.Files.{ArePlaced, AreKeyPlaces, AreRows, HoldsAll, HoldsEach, asts_in, led, led_from};
+ghost use Rattle.just_module_headers.specs.loops.Files.{AreRowsOf, led_of};
 
 use just_data::Text;
 use just_module_contents::is_enabled;

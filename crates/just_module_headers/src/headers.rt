@@ -2,7 +2,8 @@ ghost use Rattle.std.specs.Prelude.{◌≡◌, ◌<◌, ℕ, length, IfOk, IfErr
 ghost use Rattle.just_names.specs.Name.{text_of_name};
 ghost use Rattle.just_ast_definitions.specs.declared.parameter.Parameter.{Parameter};
 ghost use Rattle.just_names.specs.Index.{AreDifferent, texts_of_names};
-ghost use Rattle.just_module_contents.specs.Recipes.{FollowsDefault, NoneFollows, is_defaulted, is_needed, parameter_names, recipe_at};
+ghost use Rattle.just_module_contents.specs.Recipes.{FollowsDefault, is_defaulted, is_needed, parameter_names, recipe_at};
+ghost use Rattle.just_module_contents.specs.loops.Recipes.{NoneFollows};
 ghost use Rattle.just_module_contents.specs.Contents.{texts_of_named};
 ghost use Rattle.just_module_contents.specs.Definitions.{contents_in, recipes_in};
 ghost use Rattle.just_errors.specs.Causes.{Keeps, Reports};

@@ -6,7 +6,8 @@ ghost use Rattle.just_graph.specs.Building.{EachRow};
 ghost use Rattle.just_graph.specs.Graph.{HasEdge, IsGraph, targets};
 ghost use Rattle.just_graph.specs.Steps.{IsOrder, Reached};
 ghost use Rattle.just_module_headers.specs.declared.join.Joined.{Joined};
-ghost use Rattle.just_module_headers.specs.Joined.{AreArranged, AreGraphs, AreJoined, GoDeeper, IsJoined, StaysJoined};
+ghost use Rattle.just_module_headers.specs.Joined.{AreArranged, AreGraphs, AreJoined, GoDeeper, IsJoined};
+ghost use Rattle.just_module_headers.specs.loops.Joined.{StaysJoined};
 
 use crate::files::Rows;
 use just_graph::levels::levels;

@@ -3,7 +3,8 @@
 ghost use Rattle.std.specs.Prelude.{◌≡◌, false, IfOk, IfErr, OnOk};
 ghost use Rattle.just_errors.specs.Causes.{Keeps, Reports};
 ghost use Rattle.just_module_contents.specs.Contents.{variable_names};
-ghost use Rattle.just_names.specs.Index.{texts_of_names, AreApart, AreDifferent};
+ghost use Rattle.just_names.specs.Index.{texts_of_names, AreDifferent};
+ghost use Rattle.just_names.specs.loops.Index.{AreApart};
 ghost use Rattle.just_module_contents.specs.Definitions.{contents_in, sets_in, variables_in};
 ghost use Rattle.just_module_contents.specs.Rules.{AssignedTwice, BreaksDefinitions, Unexported, BreaksVariablesOf};
 ghost use Rattle.just_module_contents.specs.Settings.{allows_variables, is_allowing};

@@ -10,8 +10,9 @@ use Rattle.just_graph.proofs.Members.{In, contained, from_map, is_in, in_left, i
 use Rattle.just_module_contents.proofs.RecipePlaces.{one_place}
 use Rattle.just_module_contents.specs.Recipes.{name_of, named_paths, names_of, recipe_at}
 use Rattle.just_module_recipes.specs.Links.{Around, Disables, by_recipe, by_walk, found_by}
-use Rattle.just_module_recipes.specs.Making.{AreExact}
-use Rattle.just_module_recipes.specs.Rows.{AreRecipeRows, AreTold, Bars, IsOrderOf, IsTargetOf, SameMembers, gathered, itself, keys_at, near, no_set, through}
+use Rattle.just_module_recipes.specs.loops.Making.{AreExact}
+use Rattle.just_module_recipes.specs.Rows.{keys_at, no_set}
+use Rattle.just_module_recipes.specs.loops.Rows.{AreRecipeRows, AreTold, Bars, IsOrderOf, IsTargetOf, SameMembers, gathered, itself, near, through}
 use Rattle.just_module_recipes.specs.declared.targets.Target.{Target}
 use Rattle.just_module_recipes.specs.declared.targets.Target.TheVariants.{Near, Far, Gone}
 use Rattle.just_module_recipes.proofs.Finding.{gone_only, path_there}

@@ -7,7 +7,7 @@ use Rattle.just_ast_definitions.specs.declared.attribute.NamedAttribute.{NamedAt
 use Rattle.just_ast_definitions.specs.declared.parameter.Parameter.{Parameter}
 use Rattle.just_ast_expressions.specs.declared.expression.Expression.{Expression}
 use Rattle.just_module_recipes.specs.Completed.{completed_by, value_here}
-use Rattle.just_module_recipes.specs.Completing.{IsCompleting, counts_of, paths_of}
+use Rattle.just_module_recipes.specs.loops.Completing.{IsCompleting, counts_of, paths_of}
 use Rattle.just_module_recipes.specs.declared.completion.Completing.{Completing}
 use Rattle.just_names.specs.Texts.{Text}
 use Rattle.just_names.specs.declared.number.Number.{Number}

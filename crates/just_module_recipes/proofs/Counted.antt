@@ -13,8 +13,9 @@ use Rattle.just_module_contents.specs.Recipes.{name_of, names_of, recipe_at}
 use Rattle.just_module_contents.specs.Rules.{IsOutside, StandsWith, argument_count, starred}
 use Rattle.just_module_recipes.specs.Given.{Misgiven, of_count, of_star}
 use Rattle.just_module_recipes.specs.Links.{Around, BreaksLinks, HasParameters, Stands, Takes, found_by, of_far, of_near}
-use Rattle.just_module_recipes.specs.Making.{AreGivenSets, IsGiven, IsThere, parameters_in, parameters_of}
-use Rattle.just_module_recipes.specs.Rows.{IsTarget, keys_at}
+use Rattle.just_module_recipes.specs.loops.Making.{AreGivenSets, IsGiven, IsThere, parameters_in, parameters_of}
+use Rattle.just_module_recipes.specs.Rows.{keys_at}
+use Rattle.just_module_recipes.specs.loops.Rows.{IsTarget}
 use Rattle.just_module_recipes.specs.declared.targets.Target.{Target}
 use Rattle.just_module_recipes.specs.declared.targets.Target.TheVariants.{Near, Far, Gone}
 use Rattle.just_module_recipes.proofs.Finding.{near_only, nowhere}

@@ -16,10 +16,11 @@ use Rattle.just_module_contents.proofs.RecipePlaces.{name_at_place, one_place}
 use Rattle.just_module_contents.specs.Recipes.{name_of, named_paths, names_of, no_recipe, recipe_at}
 use Rattle.just_module_contents.specs.Rules.{DependsBy}
 use Rattle.just_module_recipes.specs.Links.{Around, PathLeadsTo, IsNameOf, far, found_by, near}
-use Rattle.just_module_recipes.specs.Rows.{IsTarget, IsTargetAt, IsTargetOf, Lost, far_of, lost, target_by}
+use Rattle.just_module_recipes.specs.loops.Rows.{IsTarget, IsTargetAt, IsTargetOf, Lost, far_of, lost, target_by}
 use Rattle.just_module_recipes.specs.declared.targets.Target.{Target}
 use Rattle.just_module_recipes.specs.declared.targets.Target.TheVariants.{Near, Far, Gone}
-use Rattle.just_names.specs.Index.{AreDifferent, IsIndex, IsLast, name_at, place_in}
+use Rattle.just_names.specs.Index.{AreDifferent, IsIndex, IsLast, name_at}
+use Rattle.just_names.specs.loops.Index.{place_in}
 use Rattle.just_names.specs.Name.{text_of_name, texts_of_path}
 use Rattle.just_names.specs.Token.{Place}
 use Rattle.just_names.specs.declared.name.Name.{Name}

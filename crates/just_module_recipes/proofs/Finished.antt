@@ -9,12 +9,14 @@ use Rattle.just_graph.specs.Steps.{IsOnce}
 use Rattle.just_ast_definitions.specs.Parameter.{most_arguments}
 use Rattle.just_module_contents.specs.Recipes.{name_of, names_of, no_recipe, recipe_at}
 use Rattle.just_module_contents.specs.Resolved.{AreNew, HasPriors, path_to, unresolved_numbers}
-use Rattle.just_module_recipes.specs.Completing.{IsCompleting, StandBeside, completion}
+use Rattle.just_module_recipes.specs.Completing.{StandBeside, completion}
+use Rattle.just_module_recipes.specs.loops.Completing.{IsCompleting}
 use Rattle.just_module_recipes.specs.Linked.{AddsLinked, AreSettled, HasNumber, IsLinked, IsMadeAt, IsMadeOf, of_far, of_near}
 use Rattle.just_errors.specs.Causes.{Keeps}
 use Rattle.just_module_recipes.specs.Links.{Around, BreaksLinks, Stands, by_recipe}
-use Rattle.just_module_recipes.specs.Making.{AreAllThere, AreExact, IsThere, link_of, links_of, made, parameters_in, parameters_of}
-use Rattle.just_module_recipes.specs.Rows.{AreRecipeRows, Bars, IsOrderOf, IsTarget, IsTargetOf, itself, keys_at}
+use Rattle.just_module_recipes.specs.loops.Making.{AreAllThere, AreExact, IsThere, link_of, links_of, made, parameters_in, parameters_of}
+use Rattle.just_module_recipes.specs.Rows.{keys_at}
+use Rattle.just_module_recipes.specs.loops.Rows.{AreRecipeRows, Bars, IsOrderOf, IsTarget, IsTargetOf, itself}
 use Rattle.just_module_recipes.specs.declared.targets.Target.{Target}
 use Rattle.just_module_recipes.specs.declared.targets.Target.TheVariants.{Near, Far, Gone}
 use Rattle.just_module_recipes.proofs.Barred.{bars_disables, disables_bars}

@@ -5,7 +5,7 @@ use Rattle.just_module_contents.specs.Constants.{Evaluated}
 use Rattle.just_module_contents.specs.Contents.{Contents}
 use Rattle.just_module_contents.specs.Groups.{Links, OfAliases, OfDependencies, OfRecipes}
 use Rattle.just_module_contents.specs.Rules.{BreaksBodies}
-use Rattle.just_module_recipes.specs.Broken.{BreaksRecipes, in_aliases, in_bodies, in_dependencies, in_recipes}
+use Rattle.just_module_recipes.specs.loops.Broken.{BreaksRecipes, in_aliases, in_bodies, in_dependencies, in_recipes}
 
 pub recipes_kept : (layers : Layers) (it : Evaluated) (links : Links) (m : Contents)
     → Keeps (BreaksBodies layers.syntax it.settings m) → Keeps (links layers it OfDependencies) → Keeps (links layers it OfRecipes) → Keeps (links layers it OfAliases) → Keeps (BreaksRecipes layers it links links m)

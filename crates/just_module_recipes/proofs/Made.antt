@@ -9,9 +9,10 @@ use Rattle.just_graph.proofs.Members.{In, all_in, contained, from_flat, from_map
 use Rattle.just_graph.specs.Steps.{IsOnce, in_take}
 use Rattle.just_module_contents.specs.Recipes.{name_of, recipe_at}
 use Rattle.just_module_contents.specs.Resolved.{AreNew, number_at, path_to, unresolved_numbers}
-use Rattle.just_module_recipes.specs.Completing.{IsCompleting}
-use Rattle.just_module_recipes.specs.Making.{AreAllThere, IsThere, SoFar, link_of, links_of, made, made_of, number_of, parameters_in, parameters_of, settled_of}
-use Rattle.just_module_recipes.specs.Rows.{Bars, IsOrderOf, keys_at, through}
+use Rattle.just_module_recipes.specs.loops.Completing.{IsCompleting}
+use Rattle.just_module_recipes.specs.loops.Making.{AreAllThere, IsThere, SoFar, link_of, links_of, made, made_of, number_of, parameters_in, parameters_of, settled_of}
+use Rattle.just_module_recipes.specs.Rows.{keys_at}
+use Rattle.just_module_recipes.specs.loops.Rows.{Bars, IsOrderOf, through}
 use Rattle.just_module_recipes.specs.declared.targets.Target.{Target}
 use Rattle.just_module_recipes.specs.declared.targets.Target.TheVariants.{Near, Far, Gone}
 use Rattle.just_module_recipes.proofs.Held.{empty_or, flat-append, held_more, held_same, held_there, none_in, number_of_place, number_unique, numbers_in}

@@ -4,7 +4,8 @@ use Rattle.std.specs.List.{Contains, All}
 use Rattle.std.specs.BTreeSet.{BTreeSet}
 use Rattle.std.proofs.lemmas.List.Elements.{All-nil, All-cons, All-contains}
 use Rattle.just_graph.proofs.Members.{In, contained, is_in}
-use Rattle.just_module_recipes.specs.Rows.{gathered, keys_at, near}
+use Rattle.just_module_recipes.specs.Rows.{keys_at}
+use Rattle.just_module_recipes.specs.loops.Rows.{gathered, near}
 use Rattle.just_module_recipes.specs.declared.targets.Target.{Target}
 use Rattle.just_module_recipes.specs.declared.targets.Target.TheVariants.{Near, Far, Gone}
 use Rattle.just_module_recipes.proofs.SameSets.{taken}

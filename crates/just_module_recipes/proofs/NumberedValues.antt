@@ -8,7 +8,7 @@ use Rattle.just_ast_definitions.specs.declared.attribute.Attribute.{Attribute}
 use Rattle.just_ast_definitions.specs.declared.attribute.Attribute.TheVariants as attribute
 use Rattle.just_ast_definitions.specs.declared.attribute.NamedAttribute.{NamedAttribute}
 use Rattle.just_ast_expressions.specs.declared.expression.Expression.{Expression}
-use Rattle.just_ast_references.specs.Body.{Calls, Names, mention_of}
+use Rattle.just_ast_references.specs.Mentions.{Calls, Names, mention_of}
 use Rattle.just_ast_references.specs.Numbers.{with_numbers}
 use Rattle.just_ast_references.proofs.Renumbering.{keeps_references}
 use Rattle.just_errors.specs.Causes.{Cause}

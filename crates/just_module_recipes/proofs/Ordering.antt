@@ -9,7 +9,7 @@ use Rattle.just_graph.specs.Building.{EachRow}
 use Rattle.just_graph.specs.Steps.{IsOrder, order_by}
 use Rattle.just_module_contents.specs.Recipes.{Depends, names_of}
 use Rattle.just_module_recipes.specs.Links.{Around}
-use Rattle.just_module_recipes.specs.Rows.{AreRecipeRows, Circular, IsOrderOf, circle, near}
+use Rattle.just_module_recipes.specs.loops.Rows.{AreRecipeRows, Circular, IsOrderOf, circle, near}
 use Rattle.just_module_recipes.specs.declared.targets.Target.{Target}
 use Rattle.just_module_recipes.proofs.RecipeCircles.{circle_leads}
 use Rattle.just_module_recipes.proofs.Steps.{edges, row_steps}

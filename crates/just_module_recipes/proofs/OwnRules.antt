@@ -7,9 +7,10 @@ use Rattle.just_graph.proofs.Members.{contained, is_in}
 use Rattle.just_module_contents.proofs.StandingOnes.{standing_in, stays}
 use Rattle.just_module_contents.specs.Recipes.{name_of, no_recipe, recipe_at}
 use Rattle.just_module_contents.specs.Standing.{AreStanding, InStanding, in_recipe, of_standing}
-use Rattle.just_module_recipes.specs.Completed.{OfUndisabled, of_one}
+use Rattle.just_module_recipes.specs.loops.Completed.{OfUndisabled, of_one}
 use Rattle.just_module_recipes.specs.Links.{Around, Stands}
-use Rattle.just_module_recipes.specs.Making.{AreExact, standing}
+use Rattle.just_module_recipes.specs.Making.{standing}
+use Rattle.just_module_recipes.specs.loops.Making.{AreExact}
 use Rattle.just_module_recipes.specs.Rows.{keys_at}
 use Rattle.just_module_recipes.proofs.Finished.{empty_stands, stands_empty}
 use Rattle.just_module_recipes.proofs.Splits.{standing_exact}

@@ -13,7 +13,7 @@ use Rattle.std.proofs.lemmas.Map.Views.{Contains-from_any}
 use Rattle.just_paths.specs.declared.modulepath.Modulepath.{Modulepath}
 use Rattle.just_paths.specs.contracts.modulepath.ModulepathPartialEq.TheImpl as path_eq
 use Rattle.just_paths.specs.contracts.modulepath.ModulepathOrd.TheImpl as path_ord
-use Rattle.just_module_recipes.specs.Rows.{SameMembers}
+use Rattle.just_module_recipes.specs.loops.Rows.{SameMembers}
 use Rattle.just_module_recipes.proofs.SameSets.{put_in, there_already}
 
 abbrev pub path_cmp : Modulepath → Modulepath → Ordering

@@ -7,8 +7,8 @@ use Rattle.just_graph.proofs.Members.{from_map, is_in}
 use Rattle.just_module_contents.specs.Recipes.{named_paths, recipe_at}
 use Rattle.just_module_contents.specs.Rules.{IsOutside, argument_count, circular, starred, unknown_dependency}
 use Rattle.just_module_recipes.specs.Links.{Around, BreaksLinks, PathLeadsTo}
-use Rattle.just_module_recipes.specs.Making.{AreExact, AreGivenSets, IsGiven}
-use Rattle.just_module_recipes.specs.Rows.{AreRecipeRows, Circular, IsTargetOf, Lost, circle, lost}
+use Rattle.just_module_recipes.specs.loops.Making.{AreExact, AreGivenSets, IsGiven}
+use Rattle.just_module_recipes.specs.loops.Rows.{AreRecipeRows, Circular, IsTargetOf, Lost, circle, lost}
 use Rattle.just_module_recipes.specs.declared.targets.Target.{Target}
 use Rattle.just_module_recipes.proofs.Finding.{leads}
 use Rattle.just_module_recipes.proofs.Finished.{stands_empty}

@@ -3,9 +3,9 @@ use Rattle.std.proofs.Common.{◌≡◌, ◌∙◌, ℕ, List, ap, length, subst
 use Rattle.just_module_contents.specs.Recipes.{names_of}
 use Rattle.just_module_recipes.specs.Linked.{AreSettled}
 use Rattle.just_module_recipes.specs.Links.{Around}
-use Rattle.just_module_recipes.specs.Making.{AreExact}
-use Rattle.just_module_recipes.specs.Planned.{IsPlan}
-use Rattle.just_module_recipes.specs.Rows.{AreRecipeRows, AreTold, IsOrderOf}
+use Rattle.just_module_recipes.specs.loops.Making.{AreExact}
+use Rattle.just_module_recipes.specs.loops.Planned.{IsPlan}
+use Rattle.just_module_recipes.specs.loops.Rows.{AreRecipeRows, AreTold, IsOrderOf}
 use Rattle.just_module_recipes.specs.declared.links.Plan.{Plan}
 use Rattle.just_module_recipes.specs.declared.targets.Target.{Target}
 use Rattle.just_module_recipes.proofs.Barred.{are_exact}

@@ -14,7 +14,7 @@ use Rattle.just_recipe.specs.declared.dependency.UnresolvedDependency.{Unresolve
 use Rattle.just_recipe.specs.declared.recipe.Recipe.{Recipe}
 use Rattle.just_names.specs.Index.{AreDifferent}
 use Rattle.just_module_contents.specs.Recipes.{name_of, recipe_at, names_of, Depends, DependsOnRecipe}
-use Rattle.just_module_recipes.specs.Rows.{IsTokenOn, near}
+use Rattle.just_module_recipes.specs.loops.Rows.{IsTokenOn, near}
 use Rattle.just_module_recipes.specs.declared.targets.Target.{Target}
 use Rattle.just_module_recipes.specs.declared.targets.Target.TheVariants.{Near}
 use Rattle.just_module_recipes.proofs.Nearby.{near_is}

@@ -9,7 +9,7 @@ use Rattle.std.proofs.lemmas.List.{take_more}
 use Rattle.std.proofs.lemmas.List.Elements.{Contains-append_left, Contains-append_right, Contains-append_cases, Contains-push_cases}
 use Rattle.std.proofs.lemmas.Map.Lookups.{CmpEqualImpliesEq}
 use Rattle.just_graph.proofs.Members.{In, contained, is_in, in_cases, in_left, in_right}
-use Rattle.just_module_recipes.specs.Rows.{SameMembers}
+use Rattle.just_module_recipes.specs.loops.Rows.{SameMembers}
 
 module _ {A : Type 0} where
   pub same : (xs ys : List A) → xs ≡ ys → SameMembers xs ys

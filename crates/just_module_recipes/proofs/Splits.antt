@@ -11,7 +11,8 @@ use Rattle.just_module_contents.specs.Standing.{AreStanding, falls, none, stands
 use Rattle.just_module_recipes.specs.Linked.{AreDisabled, HasDisabled}
 use Rattle.just_module_recipes.specs.Linked as linked
 use Rattle.just_module_recipes.specs.Links.{Around, Disables, Stands}
-use Rattle.just_module_recipes.specs.Making.{AreExact, fallen, fallen_by, standing, standing_by}
+use Rattle.just_module_recipes.specs.Making.{standing, standing_by}
+use Rattle.just_module_recipes.specs.loops.Making.{AreExact, fallen, fallen_by}
 use Rattle.just_module_recipes.specs.Rows.{no_set}
 use Rattle.just_module_recipes.proofs.Held.{none_in}
 use Rattle.just_names.specs.Texts.{Text}

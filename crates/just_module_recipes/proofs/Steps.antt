@@ -9,7 +9,7 @@ use Rattle.just_graph.specs.Building.{EachRow, targets_past}
 use Rattle.just_graph.proofs.Members.{contained, from_map, in_map, is_in}
 use Rattle.just_module_contents.specs.Recipes.{Depends, dependency_paths, name_of, names_of, recipe_at}
 use Rattle.just_module_recipes.specs.Links.{Around, IsNameOf}
-use Rattle.just_module_recipes.specs.Rows.{AreRecipeRows, IsTargetOf, near}
+use Rattle.just_module_recipes.specs.loops.Rows.{AreRecipeRows, IsTargetOf, near}
 use Rattle.just_module_recipes.specs.declared.targets.Target.{Target}
 use Rattle.just_module_recipes.specs.declared.targets.Target.TheVariants.{Near}
 use Rattle.just_module_recipes.proofs.Finding.{near_only}

@@ -3,7 +3,7 @@ use Rattle.std.proofs.Common.{◌≡◌, ℕ, zero, suc, ◌+◌, ◌<◌, List,
 use Rattle.std.specs.List.{AllZip}
 use Rattle.just_graph.proofs.Members.{In}
 use Rattle.just_module_recipes.proofs.SameSets.{taken}
-use Rattle.just_module_recipes.specs.Completing.{counts_of, paths_of}
+use Rattle.just_module_recipes.specs.loops.Completing.{counts_of, paths_of}
 use Rattle.just_names.specs.declared.name.Namepath.{Namepath}
 use Rattle.just_recipe.specs.declared.dependency.UnresolvedDependency.{UnresolvedDependency}
 

@@ -56,10 +56,6 @@ module _ {S E : Type 0} (answers : SyntaxAnswers) (evaluator : Evaluator) (it : 
 abbrev pub CoversRecipes : {S E : Type 0} → Completing S E → List (Recipe UnresolvedDependency) → Type 0
 CoversRecipes it recipes = (i : ℕ) → i < length recipes → CoversRecipe it.among (recipe_at recipes i)
 
--- what is told of one recipe is told of one that nothing disables
-pub data OfUndisabled (tells : Recipe UnresolvedDependency → Cause → Type 0) (recipes : List (Recipe UnresolvedDependency)) (sets : List (BTreeSet Modulepath)) : Cause → Type 0 where
-  of_one : {c : Cause} (i : ℕ) → i < length recipes → keys_at sets i ≡ [] → tells (recipe_at recipes i) c → OfUndisabled tells recipes sets c
-
 -- What an error may tell of a module's recipes: what is broken of what they depend on; or where that is kept what is told of one that stands.
 pub data TellsLinks (lists : Bool) (tells : Recipe UnresolvedDependency → Cause → Type 0) (recipes : List (Recipe UnresolvedDependency)) (it : Around) : Cause → Type 0 where
   of_links : {c : Cause} → BreaksLinks lists recipes it c → TellsLinks lists tells recipes it c

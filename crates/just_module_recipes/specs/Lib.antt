@@ -1,9 +1,8 @@
-pub mod Broken
 pub mod Completed
 pub mod Completing
 pub mod Given
 pub mod Linked
 pub mod Links
 pub mod Making
-pub mod Planned
 pub mod Rows
+pub mod loops

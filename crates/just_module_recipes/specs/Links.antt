@@ -1,5 +1,5 @@
 -- What the dependencies of a module's recipes lead to, over the compiled modules in it, and what is broken of them.
-use Rattle.std.specs.Prelude.{◌≡◌, ◌≢◌, ◌⊎◌, ℕ, ◌<◌, Bool, List, [], ◌∷◌, length, Option, None, Some}
+use Rattle.std.specs.Prelude.{◌≡◌, ◌≢◌, ℕ, ◌<◌, Bool, List, [], ◌∷◌, length, Option, None, Some}
 use Rattle.std.specs.BTreeSet.{BTreeSet}
 use Rattle.std.specs.List.{Contains}
 use Rattle.just_ast_definitions.specs.declared.alias.Alias.{Alias}
@@ -8,13 +8,12 @@ use Rattle.just_ast_definitions.specs.declared.parameter.Parameter.{Parameter}
 use Rattle.just_ast_expressions.specs.declared.expression.Expression.{Expression}
 use Rattle.just_errors.specs.Causes.{Cause}
 use Rattle.just_justfile.specs.Walks.{resolved_module, resolved_recipe}
-use Rattle.just_justfile.specs.declared.justfile.Justfile.{Justfile, out-Justfile}
+use Rattle.just_justfile.specs.declared.justfile.Justfile.{Justfile}
 use Rattle.just_justfile.specs.declared.resolution.Resolution.{Resolution}
 use Rattle.just_justfile.specs.declared.resolution.Resolution.TheVariants as resolution
 use Rattle.just_module_contents.specs.Constants.{Evaluated, value_among}
 use Rattle.just_module_contents.specs.Contents.{Contents}
 use Rattle.just_module_contents.specs.Defaults.{BreaksDefaults}
-use Rattle.just_module_contents.specs.Groups.{Links, OfAliases, OfDependencies, OfRecipes}
 use Rattle.just_module_contents.specs.Kept.{kept_recipes}
 use Rattle.just_module_contents.specs.Known.{known_of}
 use Rattle.just_module_contents.specs.RecipeValues.{BreaksRecipe, IsPastLimits}
@@ -40,10 +39,6 @@ pub record Around : Type 0 where
 
 abbrev pub around : List (Text × Text) → List Justfile → List (Recipe Dependency) → Around
 around absent modules held = record { absent = absent; modules = modules; held = held }
-
--- what is around the recipes of a compiled module
-abbrev pub around_of : Justfile → List (Recipe Dependency) → Around
-around_of j held = around (out-Justfile j).absent_modules (out-Justfile j).modules held
 
 -- what a path leads to through the modules; nothing where it has one name
 abbrev pub found_by : Around → Namepath → Option (Resolution Number)
@@ -106,15 +101,3 @@ pub data HasTarget (recipes : List (Recipe UnresolvedDependency)) (it : Around) 
 pub data BreaksAliases (recipes : List (Recipe UnresolvedDependency)) (aliases : List (Alias Namepath)) (it : Around) : Cause → Type 0 where
   of_targets : {c : Cause} → BreaksAliasTargets (HasTarget recipes it) aliases c → BreaksAliases recipes aliases it c
   of_defaults : {c : Cause} (standing : List (Recipe UnresolvedDependency)) → AreStanding (Stands recipes it) recipes standing → BreaksDefaults standing c → BreaksAliases recipes aliases it c
-
--- what is broken of the last groups
-abbrev pub links_by : Contents → Around → Links
-links_by m it layers evaluated OfDependencies = BreaksLinks evaluated.settings.lists (kept_recipes m.recipes) it
-links_by m it layers evaluated OfRecipes = BreaksStanding layers evaluated m it
-links_by m it layers evaluated OfAliases = BreaksAliases (kept_recipes m.recipes) m.aliases it
-links_by m it layers evaluated _ = λ c. ⊥
-
--- what an error may tell of them: what is broken, or a pattern that is past those limits
-abbrev pub told_by : Contents → Around → Links
-told_by m it layers evaluated OfRecipes = λ c. BreaksStanding layers evaluated m it c ⊎ IsPastLimitsBy layers evaluated m it c
-told_by m it layers evaluated g = links_by m it layers evaluated g

@@ -8,8 +8,8 @@ ghost use Rattle.just_module_contents.specs.Recipes.{name_of, names_of, recipe_a
 ghost use Rattle.just_module_contents.specs.Rules.{IsOutside, StandsWith};
 ghost use Rattle.just_module_recipes.specs.Given.{Misgiven};
 ghost use Rattle.just_module_recipes.specs.Links.{BreaksLinks, Stands};
-ghost use Rattle.just_module_recipes.specs.Making.{AreAllThere, AreExact, AreGivenSets, AreGivenAt, IsGiven, IsThere, parameters_of};
-ghost use Rattle.just_module_recipes.specs.Rows.{AreRecipeRows, AreTargets, IsTargetOf, around_by};
+ghost use Rattle.just_module_recipes.specs.loops.Making.{AreAllThere, AreExact, AreGivenSets, AreGivenAt, IsGiven, IsThere, parameters_of};
+ghost use Rattle.just_module_recipes.specs.loops.Rows.{AreRecipeRows, AreTargets, IsTargetOf, around_by};
 ghost use Rattle.just_names.specs.Index.{AreDifferent};
 
 use crate::targets::{Surroundings, Target};

@@ -12,9 +12,10 @@ ghost use Rattle.just_module_contents.specs.Standing.{AreStanding, InStanding};
 ghost use Rattle.just_module_recipes.specs.Completed.{BreaksOne, CoversRecipes, TellsLinks, TellsOne, completion_of};
 ghost use Rattle.just_module_recipes.specs.Linked.{AddsLinked, AreSettled, HasDisabled};
 ghost use Rattle.just_module_recipes.specs.Links.{BreaksLinks, Disables, Stands, around};
-ghost use Rattle.just_module_recipes.specs.Making.{fallen, fallen_by, standing, standing_by};
-ghost use Rattle.just_module_recipes.specs.Planned.{IsPlan};
-ghost use Rattle.just_module_recipes.specs.Rows.{around_by};
+ghost use Rattle.just_module_recipes.specs.Making.{standing, standing_by};
+ghost use Rattle.just_module_recipes.specs.loops.Making.{fallen, fallen_by};
+ghost use Rattle.just_module_recipes.specs.loops.Planned.{IsPlan};
+ghost use Rattle.just_module_recipes.specs.loops.Rows.{around_by};
 ghost use Rattle.just_names.specs.Index.{AreDifferent};
 
 use crate::completion::Completing;

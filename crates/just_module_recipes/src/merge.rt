@@ -1,7 +1,7 @@
 //! Which recipes of a module are disabled, and by which modules.
 ghost use Rattle.std.specs.Prelude.{◌≡◌, ◌<◌, ◌∷◌, ◌++◌, [], length, IfOk, OnOk};
 ghost use Rattle.std.specs.List.{All};
-ghost use Rattle.just_module_recipes.specs.Rows.{AreTold, IsOrderOf, SameMembers, gathered, near};
+ghost use Rattle.just_module_recipes.specs.loops.Rows.{AreTold, IsOrderOf, SameMembers, gathered, near};
 
 use crate::targets::Target;
 use just_data::Sequence;

@@ -5,7 +5,7 @@ ghost use Rattle.just_errors.specs.Causes.{Keeps, Reports};
 ghost use Rattle.just_graph.specs.Building.{EachRow};
 ghost use Rattle.just_module_contents.specs.Definitions.{recipes_in};
 ghost use Rattle.just_module_contents.specs.Recipes.{name_of, names_of, recipe_at};
-ghost use Rattle.just_module_recipes.specs.Rows.{Circular, HasRecipeRows, HasTargets, IsOrderOf, IsTokenOn, near};
+ghost use Rattle.just_module_recipes.specs.loops.Rows.{Circular, HasRecipeRows, HasTargets, IsOrderOf, IsTokenOn, near};
 ghost use Rattle.just_module_recipes.specs.declared.targets.Target.TheVariants.{Near};
 ghost use Rattle.just_names.specs.Index.{AreDifferent};
 

@@ -7,8 +7,9 @@ ghost use Rattle.just_justfile.specs.Walks.{AreOrdered};
 ghost use Rattle.just_module_contents.specs.Definitions.{recipes_in};
 ghost use Rattle.just_module_contents.specs.Recipes.{names_of, recipe_at};
 ghost use Rattle.just_module_recipes.specs.Links.{found_by};
-ghost use Rattle.just_module_recipes.specs.Rows.{AreRecipeRows, AreTargets, IsTargetAt, Lost, around_by, far_of, target_by};
-ghost use Rattle.just_names.specs.Index.{IsIndex, place_in};
+ghost use Rattle.just_module_recipes.specs.loops.Rows.{AreRecipeRows, AreTargets, IsTargetAt, Lost, around_by, far_of, target_by};
+ghost use Rattle.just_names.specs.Index.{IsIndex};
+ghost use Rattle.just_names.specs.loops.Index.{place_in};
 ghost use Rattle.just_names.specs.Name.{texts_of_path};
 
 use just_data::{BorrowedText, Sequence};

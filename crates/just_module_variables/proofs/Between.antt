@@ -19,8 +19,9 @@ use Rattle.just_graph_order.specs.Through as graph
 use Rattle.just_table.specs.Entries.{find}
 use Rattle.just_parts.specs.Known.{Known}
 use Rattle.just_parts.specs.Reading.{Reads, ReadsOn, at_once, through}
-use Rattle.just_parts.specs.Scopes.{Scoped, body_scoped, scoped, value_scoped}
-use Rattle.just_module_variables.specs.Steps.{AreNodeRows, functions_of, nodes_of, rows_of, solid_of, variables_of}
+use Rattle.just_parts.specs.Scopes.{Scoped, scoped}
+use Rattle.just_parts.specs.loops.Scopes.{body_scoped, value_scoped}
+use Rattle.just_module_variables.specs.loops.Steps.{AreNodeRows, functions_of, nodes_of, rows_of, solid_of, variables_of}
 use Rattle.just_module_variables.proofs.Edges.{ToFunction, ToVariable, has_function, has_variable, node_at, node_of_function, node_of_variable, nodes_long, passing_function, row_of, solid_inside, solid_variable, targets_are}
 use Rattle.just_name_resolution.proofs.Placed.{entry_at, entry_found, found_at, found_there, key_at, the_value}
 

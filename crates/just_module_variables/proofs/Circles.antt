@@ -20,7 +20,7 @@ use Rattle.just_graph_order.specs.Through as graph
 use Rattle.just_parts.specs.Known.{Known}
 use Rattle.just_parts.specs.Misnaming.{Expressions, IsCircleOf, circular_variables}
 use Rattle.just_parts.specs.Reading.{ReadsOn}
-use Rattle.just_module_variables.specs.Steps.{AreNodeRows, IsCircleAt, functions_of, names_of, rows_of, solid_of, variables_of}
+use Rattle.just_module_variables.specs.loops.Steps.{AreNodeRows, IsCircleAt, functions_of, names_of, rows_of, solid_of, variables_of}
 use Rattle.just_module_variables.proofs.Between.{from_reads, place_of, reads_variable, to_reads}
 use Rattle.just_module_variables.proofs.Edges.{solid_inside}
 

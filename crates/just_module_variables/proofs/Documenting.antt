@@ -20,7 +20,8 @@ use Rattle.just_parts.specs.Syntax.{SyntaxAnswers}
 use Rattle.just_ast_expressions.specs.declared.expression.Expression.{Expression}
 use Rattle.just_ast_references.specs.Numbers.{bare}
 use Rattle.just_parts.specs.Misnaming.{Misnames}
-use Rattle.just_module_variables.specs.Documented.{AreDocumented, DocFault, HasDoc, IsDocumented, doc_expressions, known_by, misnamed, no_value, value_by}
+use Rattle.just_module_variables.specs.Documented.{AreDocumented, HasDoc, IsDocumented, doc_expressions}
+use Rattle.just_module_variables.specs.loops.Documented.{DocFault, known_by, misnamed, no_value, value_by}
 use Rattle.just_module_variables.specs.Variables.{AreVariablesOf}
 use Rattle.just_module_variables.specs.declared.variables.Variables.{Variables}
 use Rattle.just_module_variables.proofs.Asking.{misnames_known, misnames_tables, tables_functions}

@@ -15,11 +15,12 @@ use Rattle.just_graph.specs.Graph.{HasEdge, targets}
 use Rattle.just_names.specs.Texts.{Text}
 use Rattle.just_ast_definitions.specs.declared.assignment.Assignment.{Assignment}
 use Rattle.just_ast_definitions.specs.declared.function_definition.FunctionDefinition.{FunctionDefinition}
-use Rattle.just_ast_references.specs.Body.{Calls, Mention, Names}
+use Rattle.just_ast_references.specs.Mentions.{Calls, Mention, Names}
 use Rattle.just_parts.specs.Known.{Known}
 use Rattle.just_parts.specs.Reading.{mentions}
-use Rattle.just_parts.specs.Scopes.{Scoped, body_scoped, value_scoped}
-use Rattle.just_module_variables.specs.Steps.{AreNodeRows, nodes_of, rows_of, solid_of, target_of, targets_of}
+use Rattle.just_parts.specs.Scopes.{Scoped}
+use Rattle.just_parts.specs.loops.Scopes.{body_scoped, value_scoped}
+use Rattle.just_module_variables.specs.loops.Steps.{AreNodeRows, nodes_of, rows_of, solid_of, target_of, targets_of}
 use Rattle.just_name_resolution.proofs.Placed.{at_left, at_right}
 
 -- it mentions a variable that is found at the place

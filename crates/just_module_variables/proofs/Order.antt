@@ -15,7 +15,7 @@ use Rattle.just_module_variables.specs.Numbered.{name_of_assignment}
 use Rattle.just_module_variables.specs.Resolved.{AreInOrder}
 use Rattle.just_parts.specs.Known.{Known}
 use Rattle.just_parts.specs.Reading.{IsEvaluationOrder}
-use Rattle.just_module_variables.specs.Steps.{names_of}
+use Rattle.just_module_variables.specs.loops.Steps.{names_of}
 use Rattle.just_name_resolution.proofs.Placed.{different, entry_at}
 
 -- the texts of the names at places

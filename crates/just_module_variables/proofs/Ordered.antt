@@ -17,7 +17,7 @@ use Rattle.just_graph_order.specs.Through.{IsOrderThrough}
 use Rattle.just_parts.specs.Known.{Known}
 use Rattle.just_parts.specs.Misnaming.{Expressions, HaveFunctionNames, HaveNames, circular_variables, in_body, in_value}
 use Rattle.just_parts.specs.Reading.{IsEvaluationOrder, ReadsOn}
-use Rattle.just_module_variables.specs.Steps.{AreNodeRows, IsOrderAt, functions_of, rows_of, solid_of, variables_of}
+use Rattle.just_module_variables.specs.loops.Steps.{AreNodeRows, IsOrderAt, functions_of, rows_of, solid_of, variables_of}
 use Rattle.just_module_variables.proofs.Between.{place_of, reads_variable, to_reads, variable_at}
 use Rattle.just_module_variables.proofs.Circles.{circle_leads}
 use Rattle.just_module_variables.proofs.Edges.{solid_inside, solid_variable}

@@ -9,13 +9,14 @@ use Rattle.just_ast_definitions.specs.declared.assignment.Assignment.{Assignment
 use Rattle.just_ast_definitions.specs.declared.function_definition.FunctionDefinition.{FunctionDefinition}
 use Rattle.just_ast_definitions.specs.declared.function_definition.FunctionParameter.{FunctionParameter}
 use Rattle.just_table.specs.Entries.{IsKeyed, IsSorted}
-use Rattle.just_module_variables.specs.Numbered.{AreBindings, assignment_by, assignments_by, function_by, functions_by, name_of_assignment, name_of_function, number_by, number_in_function}
+use Rattle.just_module_variables.specs.Numbered.{assignment_by, function_by, name_of_assignment, name_of_function, number_by, number_in_function}
+use Rattle.just_module_variables.specs.loops.Numbered.{AreBindings, assignments_by, functions_by}
 use Rattle.just_module_variables.specs.Resolved.{AreVariablesResolved}
 use Rattle.just_module_variables.proofs.Order.{name_of, order_named}
 use Rattle.just_module_variables.proofs.Tables.{put_map}
 use Rattle.just_parts.specs.Known.{Known}
 use Rattle.just_parts.specs.Reading.{IsEvaluationOrder}
-use Rattle.just_module_variables.specs.Steps.{names_of}
+use Rattle.just_module_variables.specs.loops.Steps.{names_of}
 use Rattle.just_name_resolution.proofs.Alike.{changed}
 
 module _ (m : Known) (sorted : IsSorted m.assignments) (sorted_functions : IsSorted m.functions) (numbers : Text → Option Number) (are : AreBindings m.assignments numbers) where

@@ -9,8 +9,9 @@ use Rattle.just_names.specs.Texts.{Text}
 use Rattle.just_ast_definitions.specs.declared.function_definition.FunctionDefinition.{FunctionDefinition}
 use Rattle.just_ast_definitions.specs.declared.function_definition.FunctionParameter.{FunctionParameter}
 use Rattle.just_parts.specs.Known.{hides}
-use Rattle.just_parts.specs.Scopes.{Scoped, body_scoped, scoped}
-use Rattle.just_module_variables.specs.Steps.{rows_of, targets_of}
+use Rattle.just_parts.specs.Scopes.{Scoped, scoped}
+use Rattle.just_parts.specs.loops.Scopes.{body_scoped}
+use Rattle.just_module_variables.specs.loops.Steps.{rows_of, targets_of}
 
 -- the row of one more body
 pub body_row_more : (t : Scoped → List ℕ) (first : List (List ℕ)) (rows more : List (Vec ℕ Global)) (row : Vec ℕ Global) (fs : List (Bor FunctionDefinition)) (f : Bor FunctionDefinition) (ps : List FunctionParameter) (hidden : Text → Bool)

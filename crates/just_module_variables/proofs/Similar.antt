@@ -13,7 +13,7 @@ use Rattle.just_parts.specs.Syntax.{SyntaxAnswers}
 use Rattle.just_ast_definitions.specs.declared.assignment.Assignment.{Assignment}
 use Rattle.just_ast_expressions.specs.declared.expression.Expression.{Expression}
 use Rattle.just_ast_definitions.specs.declared.function_definition.FunctionDefinition.{FunctionDefinition}
-use Rattle.just_ast_references.specs.Body.{Calls, Names, mention_of}
+use Rattle.just_ast_references.specs.Mentions.{Calls, Names, mention_of}
 use Rattle.just_ast_references.specs.References.{references}
 use Rattle.just_ast_references.specs.declared.references.Reference.{Reference}
 use Rattle.just_table.specs.Entries.{find}

@@ -1,10 +1,8 @@
 pub mod Constants
 pub mod Documented
 pub mod Numbered
-pub mod Numbering
 pub mod Overrides
-pub mod Places
 pub mod Resolved
-pub mod Steps
 pub mod Variables
 pub mod Resolver
+pub mod loops

@@ -1,6 +1,6 @@
 -- Variables and functions with the numbers of what their names mean.
-use Rattle.std.specs.Prelude.{◌≡◌, List, [], ◌∷◌, map, Option, None, Some, if◌then◌else◌}
-use Rattle.std.specs.Option.{option_map, option_or}
+use Rattle.std.specs.Prelude.{List, [], ◌∷◌, map, Option, None, Some, if◌then◌else◌}
+use Rattle.std.specs.Option.{option_or}
 use Rattle.std.specs.Str.{bytes_eq}
 use Rattle.just_names.specs.Texts.{Text}
 use Rattle.just_names.specs.Name.{text_of_name}
@@ -9,7 +9,6 @@ use Rattle.just_ast_definitions.specs.declared.assignment.Assignment.{Assignment
 use Rattle.just_ast_definitions.specs.declared.function_definition.FunctionDefinition.{FunctionDefinition}
 use Rattle.just_ast_definitions.specs.declared.function_definition.FunctionParameter.{FunctionParameter}
 use Rattle.just_ast_references.specs.Numbers.{with_numbers}
-use Rattle.just_table.specs.Entries.{IsKeyed, find, put_all}
 use Rattle.just_parts.specs.Known.{Known, number_of}
 
 -- the number of the last parameter of a name
@@ -52,14 +51,3 @@ name_of_assignment a = text_of_name a.name
 
 abbrev pub name_of_function : FunctionDefinition → Text
 name_of_function f = text_of_name f.name
-
--- numbers are those of variables, if each stands under its own name
-abbrev pub AreBindings : List (Text × Assignment) → (Text → Option Number) → Type 0
-AreBindings assignments numbers = IsKeyed name_of_assignment assignments → (name : Text) → numbers name ≡ option_map (λ (a : Assignment). a.number) (find name assignments)
-
--- tables of these variables and of these functions, whose names have these numbers
-abbrev pub assignments_by : (List FunctionParameter → Text → Option Number) → List Assignment → List (Text × Assignment)
-assignments_by number assignments = put_all name_of_assignment [] (map (assignment_by number) assignments)
-
-abbrev pub functions_by : (List FunctionParameter → Text → Option Number) → List FunctionDefinition → List (Text × FunctionDefinition)
-functions_by number functions = put_all name_of_function [] (map (function_by number) functions)

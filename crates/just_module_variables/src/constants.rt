@@ -3,7 +3,8 @@
 ghost use Rattle.std.specs.Prelude.{◌≡◌, ◌∷◌, [], IfOk, IfErr, OnOk, Some, map};
 ghost use Rattle.std.specs.HashMap.{get};
 ghost use Rattle.std.specs.List.{Contains};
-ghost use Rattle.just_module_variables.specs.Constants.{CoversAll, CoversSets, TellsFaultIn, evaluated_in};
+ghost use Rattle.just_module_variables.specs.Constants.{CoversAll, evaluated_in};
+ghost use Rattle.just_module_variables.specs.loops.Constants.{CoversSets, TellsFaultIn};
 ghost use Rattle.just_module_variables.specs.Overrides.{last_of, overridden_among};
 ghost use Rattle.just_module_variables.specs.Variables.{AreVariablesOf, known_with_numbers};
 ghost use Rattle.just_errors.specs.Causes.{Keeps, Reports};

@@ -2,7 +2,8 @@
 
 ghost use Rattle.std.specs.Prelude.{◌≡◌, IfOk, IfErr};
 ghost use Rattle.just_module_variables.specs.Constants.{CoversAll};
-ghost use Rattle.just_module_variables.specs.Documented.{AreDocumentedIn, CoversDoc, DocFault, IsDocumented, KeepsDoc, doc_expressions, known_by, value_by};
+ghost use Rattle.just_module_variables.specs.Documented.{AreDocumentedIn, IsDocumented, doc_expressions};
+ghost use Rattle.just_module_variables.specs.loops.Documented.{CoversDoc, DocFault, KeepsDoc, known_by, value_by};
 ghost use Rattle.just_module_variables.specs.Variables.{AreVariablesOf};
 ghost use Rattle.just_errors.specs.Causes.{Keeps, Reports};
 ghost use Rattle.just_module_contents.specs.Constants.{BreaksDocs};

@@ -8,7 +8,7 @@ ghost use Rattle.just_table.specs.Entries.{IsSorted};
 ghost use Rattle.just_name_resolution.specs.Lent.{known_in};
 ghost use Rattle.just_parts.specs.Misnaming.{Expressions, HaveFunctionNames, HaveNames};
 ghost use Rattle.just_parts.specs.Reading.{IsEvaluationOrder};
-ghost use Rattle.just_module_variables.specs.Steps.{AreNodeRows, IsCircleAt, IsOrderAt, names_of, rows_of, solid_of};
+ghost use Rattle.just_module_variables.specs.loops.Steps.{AreNodeRows, IsCircleAt, IsOrderAt, names_of, rows_of, solid_of};
 
 use crate::nodes::{Nodes, keys_in, nodes_of};
 use just_data::{BorrowedText, Sequence};

@@ -4,7 +4,8 @@ ghost use Rattle.std.specs.Prelude.{◌≡◌, ℕ, List, IfOk};
 ghost use Rattle.std.specs.HashMap.{get};
 ghost use Rattle.std.specs.Str.{bytes_eq};
 ghost use Rattle.just_name_resolution.specs.Numbers.{number_in};
-ghost use Rattle.just_module_variables.specs.Numbered.{AreBindings, function_by, number_by, parameter_number, with_value_numbers};
+ghost use Rattle.just_module_variables.specs.Numbered.{function_by, number_by, parameter_number, with_value_numbers};
+ghost use Rattle.just_module_variables.specs.loops.Numbered.{AreBindings};
 
 use just_data::BorrowedText;
 use just_name_resolution::{Numbers, numbered};

@@ -6,12 +6,13 @@ ghost use Rattle.std.specs.HashSet.{contains};
 ghost use Rattle.std.specs.Map.{keys_of, values_of};
 ghost use Rattle.std.specs.Str.{bytes_eq};
 ghost use Rattle.just_names.specs.Index.{IsIndex};
-ghost use Rattle.just_ast_references.specs.Body.{mention_of};
+ghost use Rattle.just_ast_references.specs.Mentions.{mention_of};
 ghost use Rattle.just_table.specs.Entries.{IsSorted};
 ghost use Rattle.just_name_resolution.specs.Lent.{known_in};
-ghost use Rattle.just_module_variables.specs.Places.{Fit, target_in, targets_in};
-ghost use Rattle.just_parts.specs.Scopes.{body_scoped, scoped, value_scoped};
-ghost use Rattle.just_module_variables.specs.Steps.{AreNodeRows, rows_of, solid_of};
+ghost use Rattle.just_module_variables.specs.loops.Places.{Fit, target_in, targets_in};
+ghost use Rattle.just_parts.specs.Scopes.{scoped};
+ghost use Rattle.just_parts.specs.loops.Scopes.{body_scoped, value_scoped};
+ghost use Rattle.just_module_variables.specs.loops.Steps.{AreNodeRows, rows_of, solid_of};
 
 use just_ast_references::{Reference, References};
 use just_data::BorrowedText;

@@ -3,7 +3,7 @@
 ghost use Rattle.std.specs.Prelude.{◌≡◌, ◌<◌, Some, length, map, slice_get, IfOk};
 ghost use Rattle.std.specs.List.{All};
 ghost use Rattle.std.specs.Map.{values_of};
-ghost use Rattle.just_module_variables.specs.Numbering.{assignments_here, functions_here};
+ghost use Rattle.just_module_variables.specs.loops.Numbering.{assignments_here, functions_here};
 ghost use Rattle.just_table.specs.Entries.{IsSorted};
 
 use crate::name_numbers::{numbered_assignment, numbered_function};

@@ -15,8 +15,9 @@ use Rattle.just_table.specs.Entries.{find}
 use Rattle.just_parts.specs.Known.{Known}
 use Rattle.just_parts.specs.Needs.{GainsThose, HaveNumbersApart, IsSame, same_number}
 use Rattle.just_name_resolution.specs.Called.{GainsCalled, IsCalledFrom, IsWhole, directly, through_body, through_value}
-use Rattle.just_parts.specs.Scopes.{Scoped, body_scoped, scoped, value_scoped}
-use Rattle.just_name_resolution.specs.Search.{Found, IsCalledIn, IsDone, Searches, found_in, scoped_of}
+use Rattle.just_parts.specs.Scopes.{Scoped, scoped}
+use Rattle.just_parts.specs.loops.Scopes.{body_scoped, value_scoped}
+use Rattle.just_name_resolution.specs.loops.Search.{Found, IsCalledIn, IsDone, Searches, found_in, scoped_of}
 use Rattle.just_name_resolution.specs.declared.needs.Search.{Search}
 use Rattle.just_name_resolution.proofs.Collecting.{gained}
 use Rattle.just_name_resolution.proofs.Searching.{done_at_last, reads_found}

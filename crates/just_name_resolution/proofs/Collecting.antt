@@ -5,7 +5,7 @@ use Rattle.just_names.specs.Texts.{Text}
 use Rattle.just_names.specs.declared.number.Number.{Number}
 use Rattle.just_parts.specs.Needs.{Gains, GainsAll, GainsThose, IsSame, same_number}
 use Rattle.just_name_resolution.specs.Called.{AreBodiesRead}
-use Rattle.just_name_resolution.specs.Search.{IsReadFrom, Searches, found_in, scoped_of}
+use Rattle.just_name_resolution.specs.loops.Search.{IsReadFrom, Searches, found_in, scoped_of}
 use Rattle.just_name_resolution.specs.declared.needs.Search.{Search}
 use Rattle.just_name_resolution.proofs.Searching.{search_gains, search_gains_all}
 use Rattle.just_parts.specs.Known.{Known}

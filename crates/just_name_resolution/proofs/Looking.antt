@@ -10,16 +10,17 @@ use Rattle.just_graph.proofs.Members.{the_one}
 use Rattle.just_names.specs.Texts.{Text}
 use Rattle.just_names.specs.declared.number.Number.{Number}
 use Rattle.just_parts.specs.Needs.{same_number}
-use Rattle.just_name_resolution.specs.Search.{Found, LeadsOn, Looks, LooksSoFar, Says, SaysCall, functions_left, to_body, to_value, variables_left}
+use Rattle.just_name_resolution.specs.loops.Search.{Found, LeadsOn, Looks, LooksSoFar, Says, SaysCall, functions_left, to_body, to_value, variables_left}
 use Rattle.just_name_resolution.proofs.Fewer.{fewer_functions, fewer_variables, one_function_fewer, one_variable_fewer}
 use Rattle.just_name_resolution.proofs.Sets.{number_itself, one_number}
 use Rattle.just_ast_definitions.specs.declared.assignment.Assignment.{Assignment}
 use Rattle.just_ast_definitions.specs.declared.function_definition.FunctionDefinition.{FunctionDefinition}
-use Rattle.just_ast_references.specs.Body.{Calls, Mention, Names, mention_of}
+use Rattle.just_ast_references.specs.Mentions.{Calls, Mention, Names, mention_of}
 use Rattle.just_ast_references.specs.declared.references.Reference.{Reference}
 use Rattle.just_table.specs.Entries.{find}
 use Rattle.just_parts.specs.Known.{Known}
-use Rattle.just_parts.specs.Scopes.{Scoped, body_scoped, value_scoped}
+use Rattle.just_parts.specs.Scopes.{Scoped}
+use Rattle.just_parts.specs.loops.Scopes.{body_scoped, value_scoped}
 
 pub not_in_none : {A : Type 0} (x : A) → Contains [] x → ⊥
 not_in_none x (k, h, e) = omega arith

@@ -16,7 +16,7 @@ use Rattle.just_names.specs.Name.{text_of_name}
 use Rattle.just_names.specs.declared.name.Name.{Name}
 use Rattle.just_names.specs.declared.number.Number.{Number}
 use Rattle.just_parts.specs.Needs.{same_number}
-use Rattle.just_name_resolution.specs.Search.{Found, Looks, LooksAtCall, LooksAtName, Searches, found_in, functions_left, hidden_by, scoped_of, unfound, variables_left}
+use Rattle.just_name_resolution.specs.loops.Search.{Found, Looks, LooksAtCall, LooksAtName, Searches, found_in, functions_left, hidden_by, scoped_of, unfound, variables_left}
 use Rattle.just_name_resolution.specs.declared.needs.Search.{Search}
 use Rattle.just_name_resolution.specs.declared.needs.Waiting.{Waiting}
 use Rattle.just_name_resolution.proofs.Looking.{looks_call, looks_function, looks_name, looks_variable}
@@ -24,13 +24,14 @@ use Rattle.just_name_resolution.proofs.Searching.{search_begins, search_ends, se
 use Rattle.just_name_resolution.proofs.Sets.{or_added, or_neither, or_nothing}
 use Rattle.just_ast_definitions.specs.declared.assignment.Assignment.{Assignment}
 use Rattle.just_ast_definitions.specs.declared.function_definition.FunctionDefinition.{FunctionDefinition}
-use Rattle.just_ast_references.specs.Body.{Calls, Names, mention_of}
+use Rattle.just_ast_references.specs.Mentions.{Calls, Names, mention_of}
 use Rattle.just_ast_references.specs.declared.references.Reference.{Reference}
 use Rattle.just_ast_references.specs.declared.references.Reference.TheVariants as reference
 use Rattle.just_table.specs.Entries.{find}
 use Rattle.just_parts.specs.Known.{Known}
 use Rattle.just_parts.specs.Reading.{mentions}
-use Rattle.just_parts.specs.Scopes.{Scoped, body_scoped, value_scoped}
+use Rattle.just_parts.specs.Scopes.{Scoped}
+use Rattle.just_parts.specs.loops.Scopes.{body_scoped, value_scoped}
 
 -- what a set or a map answers at a key
 pub asked : (set : Text → Bool) (key name : Text) (answer b : Bool) → answer ≡ set key → key ≡ name → answer ≡ b → set name ≡ b

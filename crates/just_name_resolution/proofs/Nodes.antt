@@ -4,7 +4,7 @@ use Rattle.std.proofs.Math.Seq.{drop-append_seam}
 use Rattle.std.proofs.lemmas.List.{append_cancel_left, length-append, length-map, length-reverse, map-append, reverse-append}
 use Rattle.just_names.specs.declared.number.Number.{Number}
 use Rattle.just_ast_expressions.specs.declared.expression.Expression.{Expression}
-use Rattle.just_name_resolution.specs.Nodes.{LeadsBack, LieOn}
+use Rattle.just_name_resolution.specs.loops.Nodes.{LeadsBack, LieOn}
 use Rattle.just_ast_references.specs.Numbers.{with_numbers}
 use Rattle.just_ast_expressions.specs.Parts.{parts}
 use Rattle.just_ast_references.specs.Parts.{waiting}

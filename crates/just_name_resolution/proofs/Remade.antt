@@ -8,9 +8,10 @@ use Rattle.just_names.specs.declared.number.Number.{Number}
 use Rattle.just_ast_expressions.specs.declared.expression.Expression.{Expression}
 use Rattle.just_ast_expressions.specs.declared.expression.Shape.{Shape}
 use Rattle.just_ast_expressions.specs.declared.expression.Shape.TheVariants as shape
-use Rattle.just_name_resolution.specs.Nodes.{LieOn}
+use Rattle.just_name_resolution.specs.loops.Nodes.{LieOn}
 use Rattle.just_name_resolution.proofs.Taken.{front}
-use Rattle.just_ast_references.specs.Numbers.{shape_with_numbers, with_numbers}
+use Rattle.just_ast_references.specs.Numbers.{with_numbers}
+use Rattle.just_ast_references.specs.loops.Numbers.{shape_with_numbers}
 use Rattle.just_ast_expressions.specs.Parts.{shape_parts}
 use Rattle.just_ast_references.proofs.NumbersOf as numbers
 use Rattle.just_ast_expressions.proofs.PartsOf as parts

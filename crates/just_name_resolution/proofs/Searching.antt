@@ -10,7 +10,7 @@ use Rattle.just_names.specs.Texts.{Text}
 use Rattle.just_names.specs.declared.number.Number.{Number}
 use Rattle.just_parts.specs.Needs.{Gains, GainsAll, HaveNumbersApart, IsClosed, IsNumberIn, Needs, onward, overridden_by, same_number, starts}
 use Rattle.just_name_resolution.specs.Called.{AreBodiesRead, IsCalledFrom, directly, through_body, through_value}
-use Rattle.just_name_resolution.specs.Search.{Found, IsCalledIn, IsCovered, IsDone, IsReadFrom, LeadsOn, Looks, Says, Searches, to_body, to_value, unfound}
+use Rattle.just_name_resolution.specs.loops.Search.{Found, IsCalledIn, IsCovered, IsDone, IsReadFrom, LeadsOn, Looks, Says, Searches, to_body, to_value, unfound}
 use Rattle.just_name_resolution.proofs.Looking.{added, kept, not_in_none}
 use Rattle.just_name_resolution.proofs.Sets.{number_itself, one_number}
 use Rattle.just_ast_definitions.specs.declared.assignment.Assignment.{Assignment}
@@ -19,7 +19,8 @@ use Rattle.just_ast_definitions.specs.declared.function_definition.FunctionDefin
 use Rattle.just_table.specs.Entries.{find}
 use Rattle.just_parts.specs.Known.{Known, none_hidden}
 use Rattle.just_parts.specs.Reading.{Reads, at_once, mentions, through}
-use Rattle.just_parts.specs.Scopes.{Scoped, body_scoped, value_scoped}
+use Rattle.just_parts.specs.Scopes.{Scoped}
+use Rattle.just_parts.specs.loops.Scopes.{body_scoped, value_scoped}
 
 pub not_overridden : (overridden : Number → Bool) (m : Known) (name : Text) (a : Assignment) → find name m.assignments ≡ Some a → overridden a.number ≡ false → overridden_by overridden m name ≡ false
 not_overridden overridden m name a is on = ap (λ o. option_map_or (λ (x : Assignment). overridden x.number) o false) is ∙ on

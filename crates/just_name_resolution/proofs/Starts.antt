@@ -11,7 +11,7 @@ use Rattle.just_names.specs.declared.number.Number.{Number}
 use Rattle.just_parts.specs.Known.{Known, none_hidden}
 use Rattle.just_parts.specs.Needs.{AreNeededBy, Gains, GainsAll, IsNumberIn, Needs, onward, overridden_by, same_number, starts}
 use Rattle.just_parts.specs.Reading.{IsReadIn, Reads}
-use Rattle.just_name_resolution.specs.Search.{IsReadFrom, Searches, found_in, scoped_of}
+use Rattle.just_name_resolution.specs.loops.Search.{IsReadFrom, Searches, found_in, scoped_of}
 use Rattle.just_name_resolution.specs.declared.needs.Search.{Search}
 use Rattle.just_name_resolution.proofs.Looking.{not_in_none}
 use Rattle.just_name_resolution.proofs.Searching.{search_gains, search_gains_all}

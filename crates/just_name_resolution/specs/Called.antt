@@ -6,7 +6,7 @@ use Rattle.just_names.specs.declared.number.Number.{Number}
 use Rattle.just_ast_definitions.specs.declared.assignment.Assignment.{Assignment}
 use Rattle.just_ast_definitions.specs.declared.function_definition.FunctionDefinition.{FunctionDefinition}
 use Rattle.just_ast_expressions.specs.declared.expression.Expression.{Expression}
-use Rattle.just_ast_references.specs.Body.{Calls, Names}
+use Rattle.just_ast_references.specs.Mentions.{Calls, Names}
 use Rattle.just_parts.specs.Known.{Known, hides, none_hidden}
 use Rattle.just_parts.specs.Needs.{HaveNumbersApart, IsClosed}
 use Rattle.just_parts.specs.Reading.{Reads, mentions}

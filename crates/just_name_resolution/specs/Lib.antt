@@ -1,5 +1,4 @@
 pub mod Called
 pub mod Lent
-pub mod Nodes
 pub mod Numbers
-pub mod Search
+pub mod loops

@@ -7,7 +7,8 @@ ghost use Rattle.just_errors.specs.Causes.{Keeps, Reports};
 ghost use Rattle.just_names.specs.Name.{text_of_name};
 ghost use Rattle.just_parts.specs.Known.{defines, hides, range_of};
 ghost use Rattle.just_name_resolution.specs.Lent.{known_in};
-ghost use Rattle.just_parts.specs.Misnaming.{Expressions, HaveFunctionNames, HaveNames, Misnames, MisnamesAt, MisnamesCall, MisnamesVariable};
+ghost use Rattle.just_parts.specs.Misnaming.{Expressions, HaveFunctionNames, HaveNames, Misnames, MisnamesAt, MisnamesCall};
+ghost use Rattle.just_parts.specs.loops.Misnaming.{MisnamesVariable};
 
 use just_ast_references::{Reference, References};
 use just_data::BorrowedText;

@@ -3,9 +3,10 @@
 ghost use Rattle.std.specs.Prelude.{◌≡◌, ◌+◌, ◌<◌, ◌≤◌, [], ◌∷◌, ◌++◌, IfOk, length, reverse, take};
 ghost use Rattle.std.specs.Option.{option_to_list};
 ghost use Rattle.just_names.specs.Name.{text_of_name};
-ghost use Rattle.just_name_resolution.specs.Nodes.{LeadsBack, LieOn};
+ghost use Rattle.just_name_resolution.specs.loops.Nodes.{LeadsBack, LieOn};
 ghost use Rattle.just_name_resolution.specs.Numbers.{number_in};
-ghost use Rattle.just_ast_references.specs.Numbers.{shape_with_numbers, with_numbers};
+ghost use Rattle.just_ast_references.specs.Numbers.{with_numbers};
+ghost use Rattle.just_ast_references.specs.loops.Numbers.{shape_with_numbers};
 ghost use Rattle.just_ast_expressions.specs.Parts.{parts, shape_parts};
 ghost use Rattle.just_ast_references.specs.Parts.{waiting};
 

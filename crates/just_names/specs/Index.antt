@@ -1,5 +1,5 @@
 -- Names by their places.
-use Rattle.std.specs.Prelude.{◌≡◌, ◌≢◌, ℕ, ◌<◌, List, [], ◌∷◌, length, map, get_or, Option, Some, None}
+use Rattle.std.specs.Prelude.{◌≡◌, ◌≢◌, ℕ, ◌<◌, List, [], length, map, get_or, Option, Some, None}
 use Rattle.just_names.specs.Name.{text_of_name}
 use Rattle.just_names.specs.declared.name.Name.{Name}
 
@@ -33,13 +33,3 @@ IsLast names n name (Some j) = (j < n) × (name_at names j ≡ name) × ((k : �
 -- each name is found at its place
 abbrev pub IsIndex : List (List ℕ) → (List ℕ → Option ℕ) → Type 0
 IsIndex names found = (name : List ℕ) → IsLast names (length names) name (found name)
-
--- the place that is found for a path of one name
-abbrev pub place_in : (List ℕ → Option ℕ) → List (List ℕ) → Option ℕ
-place_in found [] = None
-place_in found (name ∷ []) = found name
-place_in found (name ∷ more ∷ names) = None
-
--- no name stands in both lists
-abbrev pub AreApart : List (List ℕ) → List (List ℕ) → Type 0
-AreApart names others = (i j : ℕ) → i < length names → j < length others → name_at names i ≢ name_at others j

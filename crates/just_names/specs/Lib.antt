@@ -5,3 +5,4 @@ pub mod Number
 pub mod Texts
 pub mod Token
 pub mod Index
+pub mod loops

@@ -6,7 +6,7 @@ use Rattle.std.specs.List.{Contains}
 use Rattle.std.specs.Map.{keys_of}
 use Rattle.just_ast_definitions.specs.declared.function_definition.FunctionDefinition.{FunctionDefinition}
 use Rattle.just_ast_expressions.specs.declared.expression.Expression.{Expression}
-use Rattle.just_ast_references.specs.Body.{Calls, Mention, Names}
+use Rattle.just_ast_references.specs.Mentions.{Calls, Mention, Names}
 use Rattle.just_graph.proofs.Members.{In, contained, is_in}
 use Rattle.just_names.specs.Texts.{Text}
 use Rattle.just_parts.specs.Known.{Known, hides, none_hidden}

@@ -1,15 +1,13 @@
 -- Expressions in their scopes, and those that a recipe reads.
-use Rattle.std.specs.Prelude.{Bool, true, not, ◌&&◌, ◌||◌, List, [], ◌∷◌, ◌++◌, map, flat_map, Option, None, Some, option_to_list, if◌then◌else◌}
+use Rattle.std.specs.Prelude.{Bool, true, not, ◌&&◌, List, [], ◌∷◌, ◌++◌, map, flat_map, Option, None, Some, option_to_list, if◌then◌else◌}
 use Rattle.std.specs.List.{list_any}
 use Rattle.std.specs.Str.{bytes_eq}
 use Rattle.just_names.specs.Name.{text_of_name}
 use Rattle.just_names.specs.Texts.{Text}
-use Rattle.just_ast_definitions.specs.declared.assignment.Assignment.{Assignment}
 use Rattle.just_ast_definitions.specs.declared.attribute.ArgumentProperty.{ArgumentProperty}
 use Rattle.just_ast_definitions.specs.declared.attribute.Attribute.{Attribute}
 use Rattle.just_ast_definitions.specs.declared.attribute.Attribute.TheVariants as attribute
 use Rattle.just_ast_definitions.specs.declared.attribute.NamedAttribute.{NamedAttribute}
-use Rattle.just_ast_definitions.specs.declared.function_definition.FunctionDefinition.{FunctionDefinition}
 use Rattle.just_ast_definitions.specs.declared.line.Fragment.{Fragment}
 use Rattle.just_ast_definitions.specs.declared.line.Fragment.TheVariants as fragment
 use Rattle.just_ast_definitions.specs.declared.line.Line.{Line}
@@ -17,7 +15,7 @@ use Rattle.just_ast_definitions.specs.declared.parameter.Parameter.{Parameter}
 use Rattle.just_ast_expressions.specs.declared.expression.Expression.{Expression}
 use Rattle.just_ast_expressions.specs.declared.settings.Settings.{Settings}
 use Rattle.just_parts.specs.Groups.{ends_group}
-use Rattle.just_parts.specs.Known.{hides, none_hidden}
+use Rattle.just_parts.specs.Known.{none_hidden}
 use Rattle.just_parts.specs.Syntax.{SyntaxAnswers}
 use Rattle.just_recipe.specs.Script.{is_script}
 use Rattle.just_recipe.specs.declared.dependency.DependencyArgument.{DependencyArgument}
@@ -30,12 +28,6 @@ pub record Scoped : Type 0 where
 
 abbrev pub scoped : (Text → Bool) → Expression → Scoped
 scoped hidden expression = record { hidden = hidden; expression = expression }
-
-abbrev pub value_scoped : Assignment → Scoped
-value_scoped a = scoped none_hidden a.value
-
-abbrev pub body_scoped : FunctionDefinition → Scoped
-body_scoped f = scoped (hides f.parameters) f.body
 
 -- the expression of a property
 abbrev pub property_expressions : Option (ArgumentProperty Expression) → List Expression

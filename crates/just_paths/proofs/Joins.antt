@@ -7,7 +7,8 @@ use Rattle.std.proofs.lemmas.List.Elements.{All-nil, All-cons}
 use Rattle.std.proofs.lemmas.List.Splits.{slice_split_at, slice_split_none, length-slice_split}
 use Rattle.std.proofs.lemmas.List.Sums.{fold-append}
 use Rattle.just_paths.specs.Clean.{IsClean, is_slash, is_component}
-use Rattle.just_paths.specs.Join.{step, led, is_rooted, start_of, whole, path_of}
+use Rattle.just_paths.specs.Join.{step, led, is_rooted, whole, path_of}
+use Rattle.just_paths.specs.loops.Join.{start_of}
 use Rattle.just_names.specs.Texts.{Text, joined, texts}
 
 abbrev IsOther : ℕ → Type 0

@@ -17,10 +17,6 @@ abbrev pub is_rooted : Text → Bool
 is_rooted [] = false
 is_rooted (b ∷ bs) = is_slash b
 
--- what stands before a text: nothing where it begins with a slash
-abbrev pub start_of : Text → Text → Text
-start_of folder text = if is_rooted text then [] else folder
-
 -- a text from a folder: the text alone where it begins with a slash
 abbrev pub whole : Text → Text → Text
 whole folder text = if is_rooted text then text else folder ++ 47 ∷ text

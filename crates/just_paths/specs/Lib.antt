@@ -1,3 +1,4 @@
 pub mod Clean
 pub mod Join
 pub mod Modulepath
+pub mod loops

@@ -1,7 +1,8 @@
 //! Clean joins: where a text leads to from a folder.
 ghost use Rattle.std.specs.Prelude.{◌≡◌, ◌⊎◌, ◌∷◌, [], IfOk, OnOk};
 ghost use Rattle.just_paths.specs.Clean.{IsClean};
-ghost use Rattle.just_paths.specs.Join.{clean_join, led, start_of};
+ghost use Rattle.just_paths.specs.Join.{clean_join, led};
+ghost use Rattle.just_paths.specs.loops.Join.{start_of};
 ghost use Rattle.just_names.specs.Texts.{texts};
 
 use crate::clean::is_component;

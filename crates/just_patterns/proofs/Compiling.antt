@@ -20,7 +20,8 @@ use Rattle.regex.specs.Strings.{IsReadFromSource, regex_config, regex_pattern, r
 use Rattle.regex.specs.declared.string.regex.Regex.{Regex}
 use Rattle.regex.specs.declared.error.Error as regex
 use Rattle.regex.specs.declared.error.Error.TheVariants as regex_error
-use Rattle.just_patterns.specs.Pattern.{IsReadable, IsRefusal, IsRefused, Searches, is_found, reading, too_deep, unread, whole}
+use Rattle.just_patterns.specs.Pattern.{IsReadable, IsRefused, Searches, is_found, reading, too_deep, unread, whole}
+use Rattle.just_patterns.specs.loops.Pattern.{IsRefusal}
 
 -- what the crate says of a reading, at one that is there or not
 abbrev pub ReadsAs : Option (Nested Re × Names) → Re → Names → Type 0

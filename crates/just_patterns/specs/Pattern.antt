@@ -7,8 +7,6 @@ use Rattle.regex_syntax.specs.Grammar.{Names, read}
 use Rattle.regex.specs.Patterns.{Re, default_config, find_str}
 use Rattle.regex.specs.Strings.{regex_pattern}
 use Rattle.regex.specs.declared.string.regex.Regex.{Regex}
-use Rattle.regex.specs.declared.error.Error as regex
-use Rattle.regex.specs.declared.error.Error.TheVariants as regex_error
 use Rattle.just_names.specs.Token.{Place}
 use Rattle.just_errors.specs.declared.compile_error.CompileErrorKind.TheVariants as kind
 use Rattle.just_errors.specs.declared.error.Error.{Error}
@@ -44,13 +42,6 @@ pub data IsRefused (pattern : List ℕ) : Type 0 where
   unread : reading pattern ≡ None → IsRefused pattern
   too_deep : IfSome (reading pattern) (λ (expression, _). default_config.nest_limit < expression.depth) → IsRefused pattern
   too_large : IsReadable pattern → IsRefused pattern
-
--- the same by what the compiler of regular expressions says; want of memory aside
-abbrev pub IsRefusal : List ℕ → regex.Error → Type 0
-IsRefusal pattern (regex_error.Syntax e) = IsRefused pattern
-IsRefusal pattern regex_error.CompiledTooBig = IsReadable pattern
-IsRefusal pattern regex_error.Internal = ⊥
-IsRefusal pattern regex_error.OutOfMemory = Unit {0}
 
 -- an error is told at a place of a pattern that is refused; or memory was
 abbrev pub RefusesPattern : List ℕ → Place → Error → Type 0

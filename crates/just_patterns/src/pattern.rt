@@ -1,7 +1,8 @@
 ghost use Rattle.std.specs.Prelude.{◌≡◌, IfOk, IfErr, nat_eq};
 ghost use Rattle.std.specs.Cmp.{partial_equiv_from_equiv};
 ghost use Rattle.std.specs.Cmp.Lexicographic.{pointwise, nat_list_eq_equiv};
-ghost use Rattle.just_patterns.specs.Pattern.{is_match, IsReadable, IsRefusal, RefusesPattern, Searches};
+ghost use Rattle.just_patterns.specs.Pattern.{is_match, IsReadable, RefusesPattern, Searches};
+ghost use Rattle.just_patterns.specs.loops.Pattern.{IsRefusal};
 
 use just_data::{Exact, Shared, Text};
 use just_errors::{CompileError, CompileErrorKind, Error};

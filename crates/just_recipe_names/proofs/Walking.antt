@@ -10,7 +10,8 @@ use Rattle.just_ast_definitions.specs.declared.parameter.Parameter.{Parameter}
 use Rattle.just_ast_expressions.specs.declared.expression.Expression.{Expression}
 use Rattle.just_parts.specs.Known.{none_hidden}
 use Rattle.just_parts.specs.Scopes.{Scoped, is_parameter, parameter_expressions, parameter_scopes, scoped}
-use Rattle.just_recipe_names.specs.Steps.{Event, Hides, Reads, parameter_events, readings, scopes_from}
+use Rattle.just_recipe_names.specs.Steps.{Event, Hides, Reads, scopes_from}
+use Rattle.just_recipe_names.specs.loops.Steps.{parameter_events, readings}
 
 -- what each element of a list gives is read, element after element
 pub one_read : {A : Type 0} (given : A → List Expression) (all : List Event) (xs : List A) (i : ℕ) (x : A) (old new : List Event)

@@ -20,8 +20,6 @@ use Rattle.just_ast_definitions.specs.declared.parameter.Parameter.{Parameter}
 use Rattle.just_ast_expressions.specs.declared.expression.Expression.{Expression}
 use Rattle.just_ast_expressions.specs.declared.settings.Settings.{Settings}
 use Rattle.just_ast_references.specs.Numbers.{with_numbers}
-use Rattle.just_name_resolution.specs.Numbers.{number_in}
-use Rattle.just_name_resolution.specs.declared.numbers.Numbers.{Numbers}
 use Rattle.just_parts.specs.Groups.{ends_group}
 use Rattle.just_recipe_names.specs.declared.numbers.Meanings.{Meanings}
 use Rattle.just_parts.specs.Syntax.{SyntaxAnswers}
@@ -38,10 +36,6 @@ parameter_number (p ∷ ps) name = option_or (parameter_number ps name) (if byte
 -- the number of what a name means under parameters: of the parameter, else of the variable, else of the constant
 abbrev pub number_under : (Text → Option Number) → SyntaxAnswers → List Parameter → Text → Option Number
 number_under variable answers parameters name = option_or (parameter_number parameters name) (option_or (variable name) (answers.constant name))
-
--- an expression whose names have the numbers that are looked up
-abbrev pub looked_up : {A : Type 0} → SyntaxAnswers → Numbers A → Expression → Expression
-looked_up answers numbers = with_numbers (number_in answers numbers)
 
 -- what has other expressions
 module _ (by : Expression → Expression) where

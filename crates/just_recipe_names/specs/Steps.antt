@@ -18,16 +18,8 @@ event_of (step.Hides p) = Hides p.now
 abbrev pub events : List Step → List Event
 events = map event_of
 
-abbrev pub readings : List Expression → List Event
-readings = map Reads
-
 -- the expressions that are read, each under the parameters before it, where some come before all of them
 abbrev pub scopes_from : List Parameter → List Event → List Scoped
 scopes_from before [] = []
 scopes_from before (Reads e ∷ rest) = scoped (is_parameter before) e ∷ scopes_from before rest
 scopes_from before (Hides p ∷ rest) = scopes_from (before ++ p ∷ []) rest
-
--- the default and the value of each parameter, and then the parameter
-abbrev pub parameter_events : (Parameter → List Expression) → List Parameter → List Event
-parameter_events has [] = []
-parameter_events has (p ∷ ps) = readings (has p) ++ (Hides p ∷ parameter_events has ps)

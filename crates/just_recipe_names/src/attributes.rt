@@ -2,7 +2,8 @@
 
 ghost use Rattle.std.specs.Prelude.{◌≡◌, IfOk, map};
 ghost use Rattle.std.specs.Option.{option_map};
-ghost use Rattle.just_recipe_names.specs.Numbered.{argument_by, attribute_by, cache_by, environment_by, looked_up, attribute_with, property_by};
+ghost use Rattle.just_recipe_names.specs.Numbered.{argument_by, attribute_by, cache_by, environment_by, attribute_with, property_by};
+ghost use Rattle.just_recipe_names.specs.loops.Numbered.{looked_up};
 
 use just_data::Sequence;
 use just_name_resolution::{Numbers, numbered};

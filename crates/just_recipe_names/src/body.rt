@@ -2,7 +2,8 @@
 
 ghost use Rattle.std.specs.Prelude.{◌≡◌, true, IfOk, if◌then◌else◌, map};
 ghost use Rattle.just_recipe.specs.Script.{is_script};
-ghost use Rattle.just_recipe_names.specs.Numbered.{fragment_by, line_by, looked_up, shell_lines_by};
+ghost use Rattle.just_recipe_names.specs.Numbered.{fragment_by, line_by, shell_lines_by};
+ghost use Rattle.just_recipe_names.specs.loops.Numbered.{looked_up};
 
 use crate::lines::{ends, is_skipped};
 use just_data::Sequence;

@@ -3,7 +3,8 @@
 ghost use Rattle.std.specs.Prelude.{◌≡◌, ◌++◌, ◌&&◌, true, OnOk, flat_map};
 ghost use Rattle.just_parts.specs.Groups.{ends_group};
 ghost use Rattle.just_parts.specs.Scopes.{fragment_expressions, line_expressions, lines_read, read_lines};
-ghost use Rattle.just_recipe_names.specs.Steps.{events, readings};
+ghost use Rattle.just_recipe_names.specs.Steps.{events};
+ghost use Rattle.just_recipe_names.specs.loops.Steps.{readings};
 
 use crate::steps::Step;
 use just_parts::UnresolvedRecipe;

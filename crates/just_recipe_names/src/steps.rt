@@ -8,7 +8,8 @@ ghost use Rattle.just_parts.specs.Scopes.{attribute_expressions, compiled_expres
 ghost use Rattle.just_recipe.specs.declared.dependency.DependencyArgument.{DependencyArgument};
 ghost use Rattle.just_recipe.specs.declared.dependency.UnresolvedDependency.{UnresolvedDependency};
 ghost use Rattle.just_module_contents.specs.RecipeNames.{written_scopes};
-ghost use Rattle.just_recipe_names.specs.Steps.{events, parameter_events, readings, scopes_from};
+ghost use Rattle.just_recipe_names.specs.Steps.{events, scopes_from};
+ghost use Rattle.just_recipe_names.specs.loops.Steps.{parameter_events, readings};
 
 use crate::lines::push_body;
 use just_parts::UnresolvedRecipe;

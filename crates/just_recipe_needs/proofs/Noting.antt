@@ -14,12 +14,12 @@ use Rattle.std.proofs.lemmas.Map.Lookups.{exact_bytes}
 use Rattle.std.proofs.lemmas.Map.Text.{is_eq-slice_cmp}
 use Rattle.std.proofs.lemmas.Map.Views.{btree_set_contains_iff}
 use Rattle.std.proofs.lemmas.Slice.Eq.{bytes_eq-Decides}
-use Rattle.just_ast_references.specs.Body.{Mention, Names, mention_of}
+use Rattle.just_ast_references.specs.Mentions.{Mention, Names, mention_of}
 use Rattle.just_ast_references.specs.declared.references.Reference.{Reference}
 use Rattle.just_name_resolution.proofs.Looking.{added, kept, not_in_none}
 use Rattle.just_names.specs.Texts.{Text}
 use Rattle.just_parts.specs.Known.{Known}
-use Rattle.just_recipe_needs.specs.Direct.{GainsNames, Notes, NotesCall, function_of, functions_of, variable_of, variables_of}
+use Rattle.just_recipe_needs.specs.loops.Direct.{GainsNames, Notes, NotesCall, function_of, functions_of, variable_of, variables_of}
 use Rattle.just_recipe_needs.specs.declared.direct.DirectNames.{DirectNames}
 use Rattle.just_table.specs.Entries.{find}
 

@@ -9,7 +9,7 @@ use Rattle.std.proofs.lemmas.List.{append_assoc, append-nil}
 use Rattle.std.proofs.lemmas.List.Elements.{Contains-append_cases, Contains-append_left, Contains-append_right, Contains-push}
 use Rattle.just_ast_definitions.specs.declared.parameter.Parameter.{Parameter}
 use Rattle.just_ast_expressions.specs.declared.expression.Expression.{Expression}
-use Rattle.just_ast_references.specs.Body.{Calls, Mention, Names}
+use Rattle.just_ast_references.specs.Mentions.{Calls, Mention, Names}
 use Rattle.just_name_resolution.proofs.Looking.{not_in_none}
 use Rattle.just_name_resolution.proofs.Starts.{number_more}
 use Rattle.just_names.specs.Name.{text_of_name}
@@ -22,7 +22,7 @@ use Rattle.just_parts.specs.Scopes.{Scoped, is_parameter, scoped}
 use Rattle.just_recipe_names.specs.Steps.{Event, Hides, Reads as Read, scopes_from}
 use Rattle.just_recipe_needs.proofs.Noting.{the_one}
 use Rattle.just_recipe_needs.specs.Collected.{IsStart}
-use Rattle.just_recipe_needs.specs.Direct.{AreDirect, AreNames, GainsNames, Notes, function_of, functions_in, functions_of, variable_of, variables_in, variables_of}
+use Rattle.just_recipe_needs.specs.loops.Direct.{AreDirect, AreNames, GainsNames, Notes, function_of, functions_in, functions_of, variable_of, variables_in, variables_of}
 use Rattle.just_recipe_needs.specs.Needed.{AreNumbersOf, HasReferences, IsReadInScopes}
 use Rattle.just_recipe_needs.specs.declared.direct.DirectNames.{DirectNames}
 use Rattle.just_table.specs.Entries.{find}

@@ -1,5 +1,5 @@
 pub mod Asked
 pub mod Collected
-pub mod Direct
 pub mod Known
 pub mod Needed
+pub mod loops

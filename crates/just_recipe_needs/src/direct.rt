@@ -4,11 +4,11 @@ ghost use Rattle.std.specs.Prelude.{◌≡◌, ◌||◌, ◌∷◌, [], List, �
 ghost use Rattle.std.specs.HashSet.{contains};
 ghost use Rattle.std.specs.Str.{bytes_eq};
 ghost use Rattle.just_names.specs.Name.{text_of_name};
-ghost use Rattle.just_ast_references.specs.Body.{Names, mention_of};
+ghost use Rattle.just_ast_references.specs.Mentions.{Names, mention_of};
 ghost use Rattle.just_name_resolution.specs.Lent.{tables_in};
 ghost use Rattle.just_parts.specs.Reading.{mentions};
 ghost use Rattle.just_module_contents.specs.RecipeNames.{written_scopes};
-ghost use Rattle.just_recipe_needs.specs.Direct.{AreDirect, GainsNames, Notes, NotesCall};
+ghost use Rattle.just_recipe_needs.specs.loops.Direct.{AreDirect, GainsNames, Notes, NotesCall};
 
 use just_ast_references::{Reference, References};
 use just_data::BorrowedText;

@@ -9,7 +9,8 @@ use Rattle.just_recipe.specs.Resolved.{resolved}
 use Rattle.just_recipe.specs.declared.dependency.Dependency.{Dependency}
 use Rattle.just_recipe.specs.declared.dependency.UnresolvedDependency.{UnresolvedDependency}
 use Rattle.just_recipe.specs.declared.recipe.Recipe.{Recipe}
-use Rattle.just_recipe_resolver.specs.Resolved.{IsCompleted, IsResolvedTo, links_to}
+use Rattle.just_recipe_resolver.specs.Resolved.{IsResolvedTo, links_to}
+use Rattle.just_recipe_resolver.specs.loops.Resolved.{IsCompleted}
 
 module _ (completed : Completion) (lists : Bool) (path : Modulepath) (r : Recipe UnresolvedDependency) (targets : List (Recipe Dependency)) (m : Recipe UnresolvedDependency) (links : List Dependency) (made : Recipe Dependency) where
   pub placed_so : IsCompleted completed r m → links ≡ links_to lists m.dependencies targets → made ≡ resolved m links path (path_to path (name_of m)) → IsResolvedTo completed lists path r targets made

@@ -9,13 +9,11 @@ use Rattle.just_justfile.specs.declared.justfile.RecipeKey.{RecipeKey}
 use Rattle.just_module_contents.specs.Kept.{kept_recipes}
 use Rattle.just_module_contents.specs.Resolved.{IsResolvedAt}
 use Rattle.just_module_contents.specs.Standing.{AreStanding}
-use Rattle.just_module_recipes.specs.Completed.{with_needed}
 use Rattle.just_module_recipes.specs.Completing.{Completion}
 use Rattle.just_module_recipes.specs.Given.{Misgiven}
 use Rattle.just_module_recipes.specs.Linked.{AddsLinked, HasDisabled}
 use Rattle.just_module_recipes.specs.Links.{Around, Disables, Stands}
 use Rattle.just_names.specs.Texts.{Text}
-use Rattle.just_names.specs.declared.number.Number.{Number}
 use Rattle.just_paths.specs.declared.modulepath.Modulepath.{Modulepath}
 use Rattle.just_recipe.specs.Grouping.{grouped}
 use Rattle.just_recipe.specs.declared.dependency.Dependency.{Dependency}
@@ -43,12 +41,6 @@ abbrev pub links_to : Bool → List UnresolvedDependency → List (Recipe Depend
 links_to lists [] targets = []
 links_to lists (d ∷ ds) [] = []
 links_to lists (d ∷ ds) (t ∷ ts) = link_to lists d t ∷ links_to lists ds ts
-
--- A recipe is completed, and has the numbers of the variables that it needs.
-pub record IsCompleted (completed : Completion) (r made : Recipe UnresolvedDependency) : Type 0 where
-  pub numbers : List Number
-  pub needed : completed.Needs r numbers
-  pub made_is : made ≡ with_needed (completed.by r) numbers
 
 -- What a recipe is resolved to at a path, over the recipes that it depends on: it is completed, and each dependency leads to the recipe beside it.
 pub record IsResolvedTo (completed : Completion) (lists : Bool) (path : Modulepath) (r : Recipe UnresolvedDependency) (targets : List (Recipe Dependency)) (made : Recipe Dependency) : Type 0 where

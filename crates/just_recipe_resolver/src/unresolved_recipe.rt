@@ -6,7 +6,8 @@ ghost use Rattle.just_module_contents.specs.Recipes.{lent, name_of};
 ghost use Rattle.just_module_contents.specs.Resolved.{path_to};
 ghost use Rattle.just_recipe.specs.Resolved.{resolved};
 ghost use Rattle.just_recipe_resolution.specs.Basis.{BreaksOn, IsRecipeCovered, TellsOn, basis_by, basis_of, completion_on};
-ghost use Rattle.just_recipe_resolver.specs.Resolved.{GivesWrongly, IsCompleted, IsResolvedTo, link_to, links_to};
+ghost use Rattle.just_recipe_resolver.specs.Resolved.{GivesWrongly, IsResolvedTo, link_to, links_to};
+ghost use Rattle.just_recipe_resolver.specs.loops.Resolved.{IsCompleted};
 
 use crate::recipe_resolver::resolving_by;
 use just_data::Sequence;

@@ -21,7 +21,7 @@ use Rattle.just_patterns.specs.Pattern.{IsRefused, RefusesPattern, reading}
 use Rattle.just_recipe.specs.declared.dependency.UnresolvedDependency.{UnresolvedDependency}
 use Rattle.just_recipe.specs.declared.recipe.Recipe.{Recipe}
 use Rattle.just_recipe_values.specs.Among.{TellsOf}
-use Rattle.just_recipe_values.specs.Judged.{AreSound, Faults, expressions_among, no_value, patterns_among, refused}
+use Rattle.just_recipe_values.specs.loops.Judged.{AreSound, Faults, expressions_among, no_value, patterns_among, refused}
 
 none_there : {A : Type 0} (x : A) → Contains [] x → ⊥
 none_there x there = let inside = there.1 in omega arith

@@ -7,7 +7,7 @@ use Rattle.just_ast_definitions.specs.declared.attribute.Attribute.{Attribute}
 use Rattle.just_ast_definitions.specs.declared.attribute.NamedAttribute.{NamedAttribute}
 use Rattle.just_ast_definitions.specs.declared.parameter.Parameter.{Parameter}
 use Rattle.just_ast_expressions.specs.declared.expression.Expression.{Expression}
-use Rattle.just_recipe_values.specs.Judged.{informed_by}
+use Rattle.just_recipe_values.specs.loops.Judged.{informed_by}
 use Rattle.just_recipe_values.specs.Valued.{doc_after, informed, last_doc, last_help, last_pattern, valued_attribute, valued_named}
 
 or_none : {A : Type 0} (o : Option A) → option_or o None ≡ o

@@ -1,3 +1,3 @@
 pub mod Among
-pub mod Judged
 pub mod Valued
+pub mod loops

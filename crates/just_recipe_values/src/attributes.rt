@@ -6,7 +6,7 @@ ghost use Rattle.just_errors.specs.Causes.{Reports};
 ghost use Rattle.just_module_contents.specs.RecipeValues.{patterns_in};
 ghost use Rattle.just_parts.specs.Scopes.{compiled_expressions};
 ghost use Rattle.just_recipe_values.specs.Among.{value_of};
-ghost use Rattle.just_recipe_values.specs.Judged.{AreSound, CoversEach, Faults, argument_expressions, expressions_among, patterns_among};
+ghost use Rattle.just_recipe_values.specs.loops.Judged.{AreSound, CoversEach, Faults, argument_expressions, expressions_among, patterns_among};
 ghost use Rattle.just_recipe_values.specs.Valued.{doc_after, doc_of_value, last_doc, valued_argument, valued_attribute, valued_named};
 
 use crate::among::Among;

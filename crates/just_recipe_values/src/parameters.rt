@@ -4,7 +4,7 @@ ghost use Rattle.std.specs.Prelude.{◌≡◌, ℕ, List, IfOk, OnOk, map};
 ghost use Rattle.std.specs.HashMap.{get};
 ghost use Rattle.std.specs.Option.{option_or};
 ghost use Rattle.std.specs.Str.{bytes_eq};
-ghost use Rattle.just_recipe_values.specs.Judged.{informed_by};
+ghost use Rattle.just_recipe_values.specs.loops.Judged.{informed_by};
 ghost use Rattle.just_recipe_values.specs.Valued.{help_by, informed, last_help, last_pattern, pattern_by};
 
 use just_data::{BorrowedText, Exact, Sequence, Text};

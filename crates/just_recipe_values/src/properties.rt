@@ -6,7 +6,7 @@ ghost use Rattle.just_errors.specs.Causes.{Reports};
 ghost use Rattle.just_module_contents.specs.RecipeValues.{text_said};
 ghost use Rattle.just_parts.specs.Scopes.{property_expressions};
 ghost use Rattle.just_recipe_values.specs.Among.{value_of};
-ghost use Rattle.just_recipe_values.specs.Judged.{AreSound, CoversEach, Faults};
+ghost use Rattle.just_recipe_values.specs.loops.Judged.{AreSound, CoversEach, Faults};
 
 use crate::among::Among;
 use just_data::{Sequence, Text};

@@ -5,7 +5,7 @@ use Rattle.std.proofs.lemmas.List.{append-nil}
 use Rattle.just_ast_expressions.specs.declared.scope.Scope.{Scope}
 use Rattle.just_errors.specs.declared.halt.Halt.{Halt}
 use Rattle.just_errors.specs.declared.halt.Halt.TheVariants.{Memory}
-use Rattle.just_execution.specs.TaskInteractions.{AsksAlone}
+use Rattle.just_execution.specs.loops.TaskInteractions.{AsksAlone}
 use Rattle.just_justfile.specs.declared.justfile.Justfile.{Justfile, out-Justfile}
 use Rattle.just_names.specs.Texts.{Text}
 use Rattle.just_run_layers.proofs.InteractionLemmas.{took-called, took-requested}
@@ -16,7 +16,7 @@ use Rattle.just_run_layers.specs.declared.environment.EnvironmentPair.{Environme
 use Rattle.just_run_layers.specs.declared.host.Entry.{Entry}
 use Rattle.just_run_layers.specs.declared.host.Entry.TheVariants as entry
 use Rattle.just_scopes.specs.Opening.{Handed, context_in, dotenv_steps, folder_of, pairs_answered, scope_answered, scope_steps}
-use Rattle.just_scopes.specs.Opens.{AsksHostAlone}
+use Rattle.just_scopes.specs.loops.Opens.{AsksHostAlone}
 
 -- what follows an answer at once
 abbrev pub AtOnce : {A : Type 0} → Interaction A → Result A Halt → Type 0

@@ -34,10 +34,11 @@ use Rattle.just_table.specs.Entries.{find}
 use Rattle.just_scopes.proofs.Needed.{found-needed, needed-some, numbers-apart, reads-some}
 use Rattle.just_scopes.proofs.Standing.{one-order}
 use Rattle.just_scopes.proofs.StandingOpen.{opened-stands, stands-opened}
-use Rattle.just_scopes.specs.Need.{AreUsed, IsNeededVariable, IsToBeBound, RunsInModule, read}
+use Rattle.just_scopes.specs.Need.{IsNeededVariable, IsToBeBound, RunsInModule, read}
+use Rattle.just_scopes.specs.loops.Need.{AreUsed}
 use Rattle.just_scopes.specs.Open.{AreOpenModules, IsServedBy, whose_opened, whose_placed}
 use Rattle.just_scopes.specs.Opening.{Handed, Opened}
-use Rattle.just_scopes.specs.Opens.{CanOpen, IsOpenedBy, IsSetFor, NumberOverrides, all, some, wanted_from}
+use Rattle.just_scopes.specs.loops.Opens.{CanOpen, IsOpenedBy, IsSetFor, NumberOverrides, all, some, wanted_from}
 use Rattle.just_scopes.specs.Preorder.{IsPreorder, Placed}
 
 -- a value that a scope has is that of a binding of its name

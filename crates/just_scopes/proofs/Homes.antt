@@ -22,7 +22,7 @@ use Rattle.just_recipe.specs.declared.recipe.Recipe.{Recipe}
 use Rattle.just_scopes.proofs.Under.{has_path}
 use Rattle.just_scopes.specs.Open.{AreOpenModules}
 use Rattle.just_scopes.specs.Opening.{Handed, Opened, Setup, contents_in, opened_at, opened_under, scene_of}
-use Rattle.just_scopes.specs.Scoped.{AreModulesOf}
+use Rattle.just_scopes.specs.loops.Scoped.{AreModulesOf}
 
 -- paths that are the same are equal, and equal ones are the same
 same-path : (p q : Modulepath) → path_eq.ghosts.eq p q ≡ true → p ≡ q

@@ -29,7 +29,7 @@ use Rattle.just_scopes.proofs.StandingOpen.{opened-placed, opened-stands, stands
 use Rattle.just_scopes.specs.Need.{IsFound, IsNeededFrom}
 use Rattle.just_scopes.specs.Open.{AreLazyModules, Whose, whose_opened, whose_placed}
 use Rattle.just_scopes.specs.Opening.{Handed, Opened, opened_at}
-use Rattle.just_scopes.specs.Opens.{IsOpenedBy, IsSetFor, all, some, wanted_from}
+use Rattle.just_scopes.specs.loops.Opens.{IsOpenedBy, IsSetFor, all, some, wanted_from}
 use Rattle.just_scopes.specs.Preorder.{AreBelow, IsPreorderUnder, Placed, none, one, placed_under}
 
 -- under a lazy module each is lazy

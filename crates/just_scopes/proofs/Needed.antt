@@ -24,7 +24,8 @@ use Rattle.just_recipe.specs.declared.dependency.Dependency.{Dependency}
 use Rattle.just_recipe.specs.declared.recipe.Recipe.{Recipe}
 use Rattle.just_table.specs.Entries.{find}
 use Rattle.just_scopes.proofs.OwnPaths.{own_paths}
-use Rattle.just_scopes.specs.Need.{AreNeeds, AreUsed, IsFound, IsNeededVariable, IsNeededAtOnce, RunsInModule, NumberSets, NeedsAtOnce, chosen, is_chosen, read}
+use Rattle.just_scopes.specs.Need.{AreNeeds, IsFound, IsNeededVariable, IsNeededAtOnce, RunsInModule, NumberSets, NeedsAtOnce, chosen, is_chosen, read}
+use Rattle.just_scopes.specs.loops.Need.{AreUsed}
 
 -- what is read is a variable
 pub reads-some : {m : Known} {hidden : Text → Bool} {e : Expression} {name : Text} → Reads m hidden e name → IsSome (find name m.assignments)

@@ -4,7 +4,7 @@ use Rattle.std.specs.Prelude.{Result}
 use Rattle.just_ast_expressions.specs.declared.scope.Scope.{Scope}
 use Rattle.just_errors.specs.declared.halt.Halt.{Halt}
 use Rattle.just_errors.specs.declared.halt.Halt.TheVariants.{Memory}
-use Rattle.just_execution.specs.TaskInteractions.{AsksAlone}
+use Rattle.just_execution.specs.loops.TaskInteractions.{AsksAlone}
 use Rattle.just_run_layers.proofs.InteractionLemmas.{keeps-both, keeps-self, took-give, took-out, took-stop, took-then}
 use Rattle.just_run_layers.specs.Evaluation.{Inquiry, NumberSet, ScopeRequest}
 use Rattle.just_run_layers.specs.Host.{Answer, KeepsPromises}
@@ -13,7 +13,7 @@ use Rattle.just_run_layers.specs.declared.environment.EnvironmentPair.{Environme
 use Rattle.just_run_layers.specs.declared.host.Entry.{Entry}
 use Rattle.just_scopes.specs.Need.{NumberSets, asked}
 use Rattle.just_scopes.specs.Opening.{Inherited, Handed, Opened, dotenv_steps, open_steps, opened_with, scope_steps}
-use Rattle.just_scopes.specs.Opens.{AsksHostAlone}
+use Rattle.just_scopes.specs.loops.Opens.{AsksHostAlone}
 use Rattle.just_scopes.specs.Preorder.{Placed}
 
 module _ (e : Inquiry → Option Answer) (h k : Entry → Option Answer) (keeps : KeepsPromises h k) (sets : NumberSets) (handed : Handed) (p : Placed) (a : Inherited) (es fs : List Entry) (rs : List ScopeRequest) where

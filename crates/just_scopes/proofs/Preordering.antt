@@ -5,7 +5,8 @@ use Rattle.std.proofs.lemmas.List.Sums.{sum_by-append, sum_by-cons}
 use Rattle.std.proofs.lemmas.List.{append-nil, append_assoc, length-append, reverse-append}
 use Rattle.just_justfile.specs.declared.justfile.Justfile.{Justfile, out-Justfile}
 use Rattle.just_justfile.proofs.Counts.{count, count_is}
-use Rattle.just_scopes.specs.Preorder.{AreBelow, IsPreorderUnder, Placed, inner_modules, none, one, placed_under}
+use Rattle.just_scopes.specs.Preorder.{AreBelow, IsPreorderUnder, Placed, none, one, placed_under}
+use Rattle.just_scopes.specs.loops.Preorder.{inner_modules}
 
 -- what is listed of those that are left, the first of which is taken next
 pub data AreLeft : ℕ → List Placed → List Placed → Type 0 where

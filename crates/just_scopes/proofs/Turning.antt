@@ -18,8 +18,9 @@ use Rattle.just_scopes.proofs.Needed.{closed-set, found-one}
 use Rattle.just_scopes.specs.Need.{IsFound, IsNeededAtOnce, NumberSets, asked}
 use Rattle.just_scopes.specs.Open.{whose_opened, whose_placed}
 use Rattle.just_scopes.specs.Opening.{Handed, Opened, all_opened, around, open_steps, openings}
-use Rattle.just_scopes.specs.Opens.{AreFoundSets, CanOpen, IsOpenedBy, IsSetFor, all, some}
-use Rattle.just_scopes.specs.Preorder.{Placed, placed}
+use Rattle.just_scopes.specs.loops.Opens.{AreFoundSets, CanOpen, IsOpenedBy, IsSetFor, all, some}
+use Rattle.just_scopes.specs.Preorder.{Placed}
+use Rattle.just_scopes.specs.loops.Preorder.{placed}
 use Rattle.just_scopes.specs.declared.modules.PlacedModule.{PlacedModule}
 
 -- what a module is asked for is the set that is named

@@ -20,7 +20,7 @@ use Rattle.just_recipe.specs.Recipes.{IsOrdered}
 use Rattle.just_recipe.specs.declared.dependency.Dependency.{Dependency}
 use Rattle.just_recipe.specs.declared.recipe.Recipe.{Recipe}
 use Rattle.just_recipes.specs.Places.{place_of}
-use Rattle.just_scopes.specs.Need.{AreUsed}
+use Rattle.just_scopes.specs.loops.Need.{AreUsed}
 
 -- what is reached goes by the stops alone that are set, and by steps that are the same
 pub reached-as : {R S : ℕ → ℕ → Type 0} {start : List ℕ} {stops : List Bool} → ((a b : ℕ) → R a b → S a b) → {a : ℕ} → Reached R start stops a → Reached S start [] a

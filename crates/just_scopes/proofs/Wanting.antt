@@ -19,7 +19,7 @@ use Rattle.just_table.specs.Entries.{IsSorted, find}
 use Rattle.just_scopes.proofs.Needed.{need-flat}
 use Rattle.just_scopes.proofs.Tables.{found_in, value_found}
 use Rattle.just_scopes.specs.Need.{IsFound, IsNeededAtOnce, is_start}
-use Rattle.just_scopes.specs.Wanting.{free_values, is_free}
+use Rattle.just_scopes.specs.loops.Wanting.{free_values, is_free}
 
 -- members that pass a test
 module _ {A : Type 0} (p : A → Bool) where

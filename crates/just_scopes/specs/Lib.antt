@@ -1,7 +1,5 @@
 pub mod Need
 pub mod Open
 pub mod Opening
-pub mod Opens
 pub mod Preorder
-pub mod Scoped
-pub mod Wanting
+pub mod loops

@@ -1,6 +1,6 @@
 -- Which variables of a module a run needs.
 use Rattle.std.specs.Prelude.{◌≡◌, ◌↔◌, ◌||◌, ℕ, Bool, true, false, cond, List, Some, None, IsSome}
-use Rattle.std.specs.List.{Contains, slice_get}
+use Rattle.std.specs.List.{slice_get}
 use Rattle.just_ast_definitions.specs.declared.assignment.Assignment.{Assignment}
 use Rattle.just_ast_expressions.specs.declared.settings.Settings.{Settings}
 use Rattle.just_execution.specs.Leading.{LeadTo}
@@ -73,14 +73,3 @@ IsFound used j set = (n : Number) → (set n ≡ true) ↔ IsNumberIn (known_by_
 -- of each module that stands in the root, those of exactly the variables that are needed from some numbers
 abbrev pub AreNeedsFrom : (Number → Bool) → Justfile → NumberSets → Type 0
 AreNeedsFrom used root sets = (j : Justfile) → StandsIn root j → IsFound used j (sets j)
-
--- for the private functions: the numbers that recipes have to which tasks lead
-pub record IsUsed (recipes : List (Recipe Dependency)) (tops : List Task) (n : Number) : Type 0 where
-  pub place : ℕ
-  pub recipe : Recipe Dependency
-  pub led : LeadTo recipes tops place
-  pub at : slice_get recipes place ≡ Some recipe
-  pub there : Contains recipe.variable_references n
-
-abbrev pub AreUsed : List (Recipe Dependency) → List Task → (Number → Bool) → Type 0
-AreUsed recipes tops used = (n : Number) → (used n ≡ true) ↔ IsUsed recipes tops n

@@ -156,10 +156,6 @@ scene_of setup recipes opened = record {
 abbrev pub opened_of : OpenedModule → Opened
 opened_of o = record { justfile = o.justfile.now; lazy = o.is_lazy; dotenv = o.dotenv; scope = o.scope }
 
-abbrev pub opened_as : Result OpenedModule Halt → Result Opened Halt
-opened_as (Ok o) = Ok (opened_of o)
-opened_as (Err e) = Err e
-
 abbrev pub opened_in : Result (Vec OpenedModule Global) Halt → Result (List Opened) Halt
 opened_in (Ok os) = Ok (map opened_of os.items)
 opened_in (Err e) = Err e

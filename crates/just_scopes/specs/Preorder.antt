@@ -1,7 +1,6 @@
 -- Modules in the order of a walk: each before those in it, and these in the order of their names.
-use Rattle.std.specs.Prelude.{◌≡◌, ◌+◌, ◌||◌, ℕ, Bool, false, List, [], ◌∷◌, ◌++◌, length, map, reverse, Option, Some, None}
+use Rattle.std.specs.Prelude.{◌≡◌, ◌+◌, ◌||◌, ℕ, Bool, false, List, [], ◌∷◌, ◌++◌, length, Option, Some, None}
 use Rattle.just_justfile.specs.declared.justfile.Justfile.{Justfile, out-Justfile}
-use Rattle.just_scopes.specs.declared.modules.PlacedModule.{PlacedModule}
 
 -- a module, the place of the one that it stands in, and whether it is lazy
 pub record Placed : Type 0 where
@@ -30,13 +29,3 @@ IsPreorderUnder above root modules =
 -- and as they are lazy by what they set alone
 abbrev pub IsPreorder : Justfile → List Placed → Type 0
 IsPreorder = IsPreorderUnder false
-
--- for the private functions: a module as data; those that wait, the last of which is taken next; and the modules of the one at a place
-abbrev pub placed : PlacedModule → Placed
-placed m = record { justfile = m.justfile.now; parent = m.parent; lazy = m.is_lazy }
-
-abbrev pub waiting : List PlacedModule → List Placed
-waiting modules = reverse (map placed modules)
-
-abbrev pub inner_modules : ℕ → Bool → List Justfile → List Placed
-inner_modules place above = map (placed_under (Some place) above)

@@ -1,7 +1,8 @@
 //! The modules that stand in one.
 ghost use Rattle.std.specs.Prelude.{◌≡◌, ◌++◌, map, IfOk, OnOk};
 ghost use Rattle.just_justfile.specs.declared.justfile.Justfile.{out-Justfile};
-ghost use Rattle.just_scopes.specs.Preorder.{IsPreorderUnder, inner_modules, is_lazy_under, placed, waiting};
+ghost use Rattle.just_scopes.specs.Preorder.{IsPreorderUnder, is_lazy_under};
+ghost use Rattle.just_scopes.specs.loops.Preorder.{inner_modules, placed, waiting};
 
 use just_justfile::Justfile;
 use std::alloc::{AllocError, Global};

@@ -5,7 +5,7 @@ ghost use Rattle.just_justfile.specs.Running.{known_by_tables};
 ghost use Rattle.just_justfile.specs.declared.justfile.Justfile.{out-Justfile};
 ghost use Rattle.just_parts.specs.Needs.{HaveNumbersApart, same_number};
 ghost use Rattle.just_scopes.specs.Need.{IsFound, is_start};
-ghost use Rattle.just_scopes.specs.Wanting.{HasNumbersOf, free_values};
+ghost use Rattle.just_scopes.specs.loops.Wanting.{HasNumbersOf, free_values};
 ghost use Rattle.just_table.specs.Entries.{IsSorted};
 ghost use Rattle.std.specs.Map.{values_of};
 

@@ -3,7 +3,7 @@
 ghost use Rattle.std.specs.Prelude.{◌≡◌, ◌++◌, List, length, map, IfOk};
 ghost use Rattle.std.specs.HashSet.{contains};
 ghost use Rattle.std.specs.List.{All, Contains};
-ghost use Rattle.just_execution.specs.TaskInteractions.{AsksAlone};
+ghost use Rattle.just_execution.specs.loops.TaskInteractions.{AsksAlone};
 ghost use Rattle.just_execution.specs.Pairs.{AllBelow};
 ghost use Rattle.just_justfile.specs.Running.{CanRun, HoldsOverridden, TellsBareLines, known_by_tables};
 ghost use Rattle.just_justfile.specs.declared.justfile.Justfile.{out-Justfile};
@@ -16,9 +16,10 @@ ghost use Rattle.just_run_layers.specs.Evaluation.{config_contents, in_set, set_
 ghost use Rattle.just_run_layers.specs.Host.{KeepsPromises, executed};
 ghost use Rattle.just_run_layers.specs.Interactions.{log_of};
 ghost use Rattle.just_scopes.specs.Open.{AreLazyModules, AreOpenModules, Opens, OpensLazily, whose_opened, whose_placed};
-ghost use Rattle.just_scopes.specs.Opening.{around, dotenv_steps, folder_of, handed_of, opened_as, opened_in, opened_of, scope_steps, setup_of};
-ghost use Rattle.just_scopes.specs.Opens.{AsksHostAlone, CanOpen, IsOpenedBy, IsSetFor, OpensAll, OpensOne, around_as, set_in, wanted_from};
-ghost use Rattle.just_scopes.specs.Preorder.{placed};
+ghost use Rattle.just_scopes.specs.Opening.{around, dotenv_steps, folder_of, handed_of, opened_in, opened_of, scope_steps, setup_of};
+ghost use Rattle.just_scopes.specs.loops.Opening.{opened_as};
+ghost use Rattle.just_scopes.specs.loops.Opens.{AsksHostAlone, CanOpen, IsOpenedBy, IsSetFor, OpensAll, OpensOne, around_as, set_in, wanted_from};
+ghost use Rattle.just_scopes.specs.loops.Preorder.{placed};
 
 use crate::context::context_of;
 use crate::modules::{PlacedModule, modules_in};

@@ -4,7 +4,7 @@ ghost use Rattle.just_execution.specs.Homes.{AllHaveModuleScope};
 ghost use Rattle.just_execution.specs.Scene.{scene_in};
 ghost use Rattle.just_scopes.specs.Open.{AreOpenModules};
 ghost use Rattle.just_scopes.specs.Opening.{handed_of, opened_at, opened_of, scene_of, scope_at, setup_of};
-ghost use Rattle.just_scopes.specs.Scoped.{AreModulesOf};
+ghost use Rattle.just_scopes.specs.loops.Scoped.{AreModulesOf};
 
 use crate::context::context_of;
 use crate::opening::OpenedModule;

@@ -6,7 +6,7 @@ ghost use Rattle.just_execution.specs.Leading.{LeadTo, needed_places, places};
 ghost use Rattle.just_execution.specs.Pairs.{AllBelow};
 ghost use Rattle.just_graph.specs.Building.{EachRow};
 ghost use Rattle.just_parts.specs.Needs.{same_number};
-ghost use Rattle.just_scopes.specs.Need.{AreUsed};
+ghost use Rattle.just_scopes.specs.loops.Need.{AreUsed};
 
 use just_execution::{Task, dependencies_at, place_in, recipe_at};
 use just_graph::reach;

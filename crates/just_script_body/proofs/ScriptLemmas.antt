@@ -13,7 +13,7 @@ use Rattle.just_run_layers.specs.Interactions.{Return, Log, Question, Interactio
 use Rattle.just_run_layers.proofs.InteractionLemmas.{then-assoc, then-give, then-same, took-out}
 use Rattle.just_recipe_body.specs.Body.{BodyContents, concluded, line_steps}
 use Rattle.just_recipe_body.proofs.StepEnds.{took-given, took-refused}
-use Rattle.just_script_body.specs.Executors.{IsOrMemory}
+use Rattle.just_script_body.specs.loops.Executors.{IsOrMemory}
 use Rattle.just_script_body.specs.ScriptBody.{texts_steps}
 
 module _ (p : Question → Option Answer) where

@@ -1,11 +1,9 @@
 -- What runs a script.
-use Rattle.std.specs.Prelude.{◌≡◌, codes, if◌then◌else◌, List, [], ◌∷◌, map, Option, None, Some, Result, Ok, Err}
+use Rattle.std.specs.Prelude.{codes, if◌then◌else◌, List, [], ◌∷◌, map, Option, None, Some, Result, Ok, Err}
 use Rattle.std.specs.Option.{unwrap_or}
 use Rattle.just_ast_definitions.specs.declared.line.Line.{Line}
 use Rattle.just_ast_expressions.specs.declared.interpreter.Interpreter.{Interpreter}
 use Rattle.just_ast_expressions.specs.declared.string_literal.StringLiteral.{StringLiteral}
-use Rattle.just_errors.specs.declared.halt.Halt.{Halt}
-use Rattle.just_errors.specs.declared.halt.Halt.TheVariants as halt
 use Rattle.just_errors.specs.declared.run_error.RunError.{RunError}
 use Rattle.just_errors.specs.declared.run_error.RunError.TheVariants as run
 use Rattle.just_names.specs.Texts.{Text}
@@ -64,10 +62,3 @@ executor_said b None texts = executor_by b (shebang_text b.syntax b.recipe.body 
 -- What runs a script of these texts.
 abbrev pub executor_of : BodyContents → List Text → Result Executor RunError
 executor_of b texts = executor_said b (script_of b.recipe.attributes) texts
-
--- for the private functions: this result, or want of memory
-abbrev pub IsOrMemory : {A : Type 0} → Result A RunError → Result A Halt → Type 0
-IsOrMemory expected (Ok x) = expected ≡ Ok x
-IsOrMemory expected (Err (halt.Failed e)) = expected ≡ Err e
-IsOrMemory expected (Err halt.Memory) = Unit {0}
-IsOrMemory expected (Err halt.Exhausted) = ⊥

@@ -1,3 +1,4 @@
 pub mod Executors
 pub mod ScriptAttributes
 pub mod ScriptBody
+pub mod loops

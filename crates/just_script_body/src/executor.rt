@@ -3,7 +3,7 @@ ghost use Rattle.std.specs.Prelude.{◌≡◌, IfOk, map};
 ghost use Rattle.std.specs.Option.{option_copied};
 ghost use Rattle.just_recipe_body.specs.Body.{contents_of};
 ghost use Rattle.just_script_body.specs.Executors as spec;
-ghost use Rattle.just_script_body.specs.Executors.{IsOrMemory};
+ghost use Rattle.just_script_body.specs.loops.Executors.{IsOrMemory};
 
 use crate::attributes::script_of;
 use just_ast_definitions::Line;

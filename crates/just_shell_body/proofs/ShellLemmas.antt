@@ -18,7 +18,8 @@ use Rattle.just_run_layers.specs.Interactions.{Return, Log, Question, Interactio
 use Rattle.just_run_layers.proofs.InteractionLemmas.{took-called, took-give}
 use Rattle.just_recipe_body.specs.Body.{BodyContents, show_steps}
 use Rattle.just_recipe_body.specs.Covering.{IsLineCovered}
-use Rattle.just_shell_body.specs.Lines.{TextBeginsGroup, IsGroupCovered, command_of_group, group_command_steps, groups, is_skipped, lines_text_steps}
+use Rattle.just_shell_body.specs.Lines.{IsGroupCovered, command_of_group, group_command_steps, groups, is_skipped, lines_text_steps}
+use Rattle.just_shell_body.specs.loops.Lines.{TextBeginsGroup}
 use Rattle.just_shell_body.specs.ShellBody.{call_steps, group_steps, groups_steps, is_shown, lines_steps, show_command_steps, shown_command, unless_dry_steps, unless_ended}
 use Rattle.just_recipe_body.specs.declared.body.Preparation.{Preparation}
 use Rattle.just_recipe_body.specs.declared.judgement.Next.{Next}

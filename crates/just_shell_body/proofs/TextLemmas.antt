@@ -15,7 +15,8 @@ use Rattle.just_run_layers.specs.LineTexts.{AgreesWith, BeginsPlain, EndsWithBac
 use Rattle.just_run_layers.specs.Interactions.{Return, Log, Question, HasTrace, and_then}
 use Rattle.just_run_layers.specs.Host.{Answer}
 use Rattle.just_recipe_body.specs.Body.{BodyContents, line_steps}
-use Rattle.just_shell_body.specs.Lines.{TextBeginsGroup, lines_text_steps, trimmed}
+use Rattle.just_shell_body.specs.Lines.{lines_text_steps, trimmed}
+use Rattle.just_shell_body.specs.loops.Lines.{TextBeginsGroup}
 
 -- a text that begins so begins so with more after it
 pub plain-append : (count : ℕ) (text more : Text) → BeginsPlain count text → BeginsPlain count (text ++ more)

@@ -9,7 +9,6 @@ use Rattle.just_names.specs.Texts.{Text}
 use Rattle.just_parts.specs.Groups.{ends_group}
 use Rattle.just_parts.specs.Known.{Known}
 use Rattle.just_parts.specs.Syntax.{SyntaxAnswers}
-use Rattle.just_run_layers.specs.LineTexts.{BeginsPlain}
 use Rattle.just_run_layers.specs.Interactions.{Return, Interaction, and_then}
 use Rattle.just_recipe_body.specs.Body.{BodyContents, line_steps}
 use Rattle.just_recipe_body.specs.Covering.{IsLineCovered}
@@ -74,8 +73,3 @@ IsGroupCovered syntax settings known scope (line ∷ lines) = is_skipped syntax 
 
 abbrev pub AreGroupsCovered : SyntaxAnswers → Settings → Known → Scope → List Line → Type 0
 AreGroupsCovered syntax settings known scope lines = All (IsGroupCovered syntax settings known scope) (groups syntax settings lines)
-
--- a text begins with as many plain bytes as the first line has sigils, where there is a first line
-abbrev pub TextBeginsGroup : SyntaxAnswers → Settings → List Line → Text → Type 0
-TextBeginsGroup syntax settings [] text = Unit {0}
-TextBeginsGroup syntax settings (line ∷ lines) text = BeginsPlain (length (syntax.sigils line settings)) text

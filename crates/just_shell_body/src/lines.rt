@@ -8,7 +8,8 @@ ghost use Rattle.just_run_layers.specs.LineTexts.{AgreesWith, BeginsPlain, EndsW
 ghost use Rattle.just_recipe_body.specs.Body.{contents_of};
 ghost use Rattle.just_recipe_body.specs.Covering.{IsLineCovered};
 ghost use Rattle.just_shell_body.specs.Lines as spec;
-ghost use Rattle.just_shell_body.specs.Lines.{TextBeginsGroup, IsGroupCovered};
+ghost use Rattle.just_shell_body.specs.Lines.{IsGroupCovered};
+ghost use Rattle.just_shell_body.specs.loops.Lines.{TextBeginsGroup};
 ghost use Rattle.just_recipe_body.specs.Taking.{AsksEvaluator};
 
 use just_ast_definitions::Line;

@@ -14,7 +14,7 @@ use Rattle.just_tail.specs.Words.{Words, as_texts}
 use Rattle.just_tail.specs.Options.{option_of, has_options, place}
 use Rattle.just_tail.specs.Pieces.{Supplied}
 use Rattle.just_tail.specs.Steps.{Step, take_word, close_options, use_switch, positionals_among, is_closed, text_given, Uses, use_at, use_by, uses_from, group}
-use Rattle.just_tail.specs.Reader.{HasRead}
+use Rattle.just_tail.specs.loops.Reader.{HasRead}
 
 -- a word more in one group
 pub shown_pushed_at : (xs : List (Vec (Bor Text) Global)) (i : ℕ) (old new : Vec (Bor Text) Global) (w : Bor Text) → i < length xs →

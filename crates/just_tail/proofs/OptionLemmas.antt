@@ -14,7 +14,7 @@ use Rattle.just_tail.specs.Pieces.{Supplied, nothing, equals, next, value_of, ne
 use Rattle.just_tail.specs.Steps.{Step, take_word, close_options, use_switch, give, is_closed, is_open, text_given, Need, unknown, duplicate, no_text, some_text, asks, need, FitsNeed, IsNext, StepsFollow}
 use Rattle.just_tail.specs.Cause.{ArgumentFault}
 use Rattle.just_tail.specs.Tail.{RefusesSwitch, given_nothing, Refused}
-use Rattle.just_tail.specs.Reader.{HasRead, HoldsAfter, HoldsOpen}
+use Rattle.just_tail.specs.loops.Reader.{HasRead, HoldsAfter, HoldsOpen}
 use Rattle.just_tail.proofs.Outcomes.{IfOk_then}
 use Rattle.just_tail.proofs.GroupLemmas.{stands_use}
 

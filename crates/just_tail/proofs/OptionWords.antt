@@ -11,7 +11,7 @@ use Rattle.just_tail.specs.Pieces.{OptionName, long, cluster, Supplied, option_w
 use Rattle.just_tail.specs.Steps.{use_switch, give, need, FitsNeed, StepsFollow}
 use Rattle.just_tail.specs.Cause.{tail_cause_of}
 use Rattle.just_tail.specs.Tail.{RefusesSwitch, Refused, BadOption}
-use Rattle.just_tail.specs.Reader.{HasRead, HoldsAfter, HoldsOpen}
+use Rattle.just_tail.specs.loops.Reader.{HasRead, HoldsAfter, HoldsOpen}
 use Rattle.just_tail.proofs.Outcomes.{IfOk_then, IfCause_then}
 use Rattle.just_tail.proofs.OptionLemmas.{single_refused}
 

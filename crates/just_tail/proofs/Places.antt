@@ -4,7 +4,8 @@ use Rattle.std.specs.List.{slice_get}
 use Rattle.std.specs.Prelude.{option_map}
 use Rattle.just_ast_definitions.specs.Parameter.{is_option}
 use Rattle.just_ast_definitions.specs.declared.parameter.Parameter.{Parameter}
-use Rattle.just_tail.specs.Options.{first_of, has_switch, option_from, option_of, place_from, positions_from, first_variadic, place}
+use Rattle.just_tail.specs.Options.{first_of, has_switch, option_from, option_of, positions_from, first_variadic, place}
+use Rattle.just_tail.specs.loops.Options.{place_from}
 use Rattle.just_errors.specs.declared.switch.Switch.{Switch}
 
 -- the parameter p stands at the place j, where the first place is k

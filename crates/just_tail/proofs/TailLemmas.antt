@@ -10,7 +10,7 @@ use Rattle.just_tail.specs.Words.{Words, as_texts}
 use Rattle.just_tail.specs.Pieces.{Piece, words_of, HasOptionName}
 use Rattle.just_tail.specs.Steps.{Step, steps_of_piece, StepsFollow, PiecesFollow, Ends}
 use Rattle.just_tail.specs.Tail.{IsTail}
-use Rattle.just_tail.specs.Reader.{HasRead}
+use Rattle.just_tail.specs.loops.Reader.{HasRead}
 use Rattle.just_tail.proofs.OptionLemmas.{take_none}
 
 -- the first of some words, and the others

@@ -4,5 +4,5 @@ pub mod Pieces
 pub mod Steps
 pub mod Cause
 pub mod Tail
-pub mod Reader
 pub mod Checks
+pub mod loops

@@ -1,5 +1,5 @@
 -- The parameters that switches name, and those to which positional words belong.
-use Rattle.std.specs.Prelude.{ℕ, ◌+◌, Bool, false, not, ◌||◌, ◌==◌, is_some, Option, Some, None, List, [], ◌∷◌, filter, min, option_map, slice_get, if◌then◌else◌}
+use Rattle.std.specs.Prelude.{ℕ, ◌+◌, Bool, false, not, ◌||◌, ◌==◌, is_some, Option, Some, None, List, [], ◌∷◌, filter, min, slice_get, if◌then◌else◌}
 use Rattle.std.specs.List.{position_or_len, list_any}
 use Rattle.std.specs.Str.{bytes_eq}
 use Rattle.just_names.specs.Texts.{Text}
@@ -36,10 +36,6 @@ option_from k (p ∷ ps) s = first_of (option_from (k + 1) ps s) (if has_switch 
 -- the parameter that a switch names, with its place: of those that have the switch the last
 abbrev pub option_of : List Parameter → Switch → Option (ℕ × Parameter)
 option_of = option_from 0
-
--- its place alone, from k on
-abbrev pub place_from : ℕ → List Parameter → Switch → Option ℕ
-place_from k ps s = option_map (λ f. f.0) (option_from k ps s)
 
 -- some parameter is named by a switch
 abbrev pub has_options : List Parameter → Bool

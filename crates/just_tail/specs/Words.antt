@@ -1,5 +1,5 @@
 -- Words, and groups of words, as texts.
-use Rattle.std.specs.Prelude.{List, map, Option, option_map}
+use Rattle.std.specs.Prelude.{List, map}
 use Rattle.std.specs.Borrow.{Bor}
 use Rattle.std.specs.declared.vec.Vec.{Vec}
 use Rattle.std.specs.declared.alloc.Global.{Global}
@@ -12,7 +12,3 @@ Words = List Text
 -- the groups of borrowed words, as texts
 abbrev pub as_texts : List (Vec (Bor Text) Global) → List Words
 as_texts groups = map (λ g. texts g.items) groups
-
--- the text that may be borrowed
-abbrev pub value_text : Option (Bor Text) → Option Text
-value_text value = option_map (λ v. v.now) value

@@ -4,7 +4,7 @@ ghost use Rattle.just_names.specs.Texts.{texts};
 ghost use Rattle.just_parts.specs.Evaluator.{count_fault_of};
 ghost use Rattle.just_tail.specs.Words.{as_texts};
 ghost use Rattle.just_tail.specs.Cause.{tail_cause_of};
-ghost use Rattle.just_tail.specs.Reader.{switch_of};
+ghost use Rattle.just_tail.specs.loops.Reader.{switch_of};
 ghost use Rattle.just_tail.specs.Checks.{is_missing, missing_switch, named_by, first_missing, any_missing, least_positionals, most_positionals, lacking, wrong_count, matches, wrong_pattern, unfit, first_unfit};
 
 use crate::error::TailError;

@@ -3,13 +3,14 @@ ghost use Rattle.std.specs.Prelude.{◌≡◌, ◌≢◌, ◌<◌, ◌≤◌, tr
 ghost use Rattle.just_names.specs.Texts.{Text as Name, texts};
 ghost use Rattle.just_ast_definitions.specs.declared.parameter.Parameter.{Parameter as Record};
 ghost use Rattle.just_errors.specs.declared.switch.Switch.{Switch as Named};
-ghost use Rattle.just_tail.specs.Words.{Words, value_text};
+ghost use Rattle.just_tail.specs.Words.{Words};
+ghost use Rattle.just_tail.specs.loops.Words.{value_text};
 ghost use Rattle.just_tail.specs.Options.{option_of};
 ghost use Rattle.just_tail.specs.Pieces.{OptionName, cluster, letters, Supplied, value_of, next_of, with_value, option_word, has_equals, is_dashed, IsOptionName, switches_of};
 ghost use Rattle.just_tail.specs.Steps.{asks, use_switch, give, may_use, need, FitsNeed, StepsFollow};
 ghost use Rattle.just_tail.specs.Cause.{invalid_option, tail_cause_of};
 ghost use Rattle.just_tail.specs.Tail.{RefusesSwitch, Refused, BadOption, given_nothing};
-ghost use Rattle.just_tail.specs.Reader.{switch_of, IsTailPlan, HasRead, HoldsAfter, HoldsOpen};
+ghost use Rattle.just_tail.specs.loops.Reader.{switch_of, IsTailPlan, HasRead, HoldsAfter, HoldsOpen};
 
 use crate::error::TailError;
 use crate::groups::push_at;

@@ -4,8 +4,9 @@ ghost use Rattle.std.specs.Str.{bytes_eq};
 ghost use Rattle.std.specs.HashMap.{get};
 ghost use Rattle.just_names.specs.Texts.{Text as Name};
 ghost use Rattle.just_errors.specs.declared.switch.Switch.TheVariants as named;
-ghost use Rattle.just_tail.specs.Options.{option_of, place_from, has_options, positions_from, first_variadic, place};
-ghost use Rattle.just_tail.specs.Reader.{switch_of, IsTailPlan};
+ghost use Rattle.just_tail.specs.Options.{option_of, has_options, positions_from, first_variadic, place};
+ghost use Rattle.just_tail.specs.loops.Options.{place_from};
+ghost use Rattle.just_tail.specs.loops.Reader.{switch_of, IsTailPlan};
 
 use crate::switch::BorrowedSwitch;
 use just_ast_definitions::Parameter;

@@ -1,6 +1,6 @@
 //! How far the reader of a tail has come.
 ghost use Rattle.std.specs.Prelude.{◌≡◌, [], IfOk, length, vec_len};
-ghost use Rattle.just_tail.specs.Reader.{HasRead};
+ghost use Rattle.just_tail.specs.loops.Reader.{HasRead};
 
 use crate::groups::empty_groups;
 use crate::plan::has_options;

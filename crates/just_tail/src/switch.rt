@@ -1,6 +1,6 @@
 //! What names an option, borrowed.
 ghost use Rattle.std.specs.Prelude.{◌≡◌, IfOk};
-ghost use Rattle.just_tail.specs.Reader.{switch_of};
+ghost use Rattle.just_tail.specs.loops.Reader.{switch_of};
 
 use just_data::Text;
 use just_errors::Switch;

@@ -6,7 +6,7 @@ ghost use Rattle.just_tail.specs.Pieces.{Piece, words_of, HasOptionName};
 ghost use Rattle.just_tail.specs.Steps.{steps_of_piece, StepsFollow, Ends};
 ghost use Rattle.just_tail.specs.Cause.{tail_cause_of};
 ghost use Rattle.just_tail.specs.Tail.{IsTail, NoTail, BadOption};
-ghost use Rattle.just_tail.specs.Reader.{IsTailPlan, HasRead, HoldsAfter};
+ghost use Rattle.just_tail.specs.loops.Reader.{IsTailPlan, HasRead, HoldsAfter};
 
 use crate::error::TailError;
 use crate::groups::push_at;

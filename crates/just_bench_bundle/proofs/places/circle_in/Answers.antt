@@ -1,6 +1,6 @@
 use Rattle.std.proofs.Common.{Some, None, map, subst}
 use Rattle.std.specs.Prelude.{IfNone, IfSome}
-use Rattle.just_bench_bundle.specs.Places.{HasItems}
+use Rattle.just_bench_bundle.specs.loops.Places.{HasItems}
 use Rattle.just_bench_bundle.proofs.Standing.{finds_ok, none_in}
 use Rattle.just_loader.specs.Links.{To}
 use Rattle.just_parts.specs.Bare.{bare_item}

@@ -3,7 +3,8 @@ use Rattle.std.specs.Prelude.{IfNone}
 use Rattle.std.specs.List.{Contains}
 use Rattle.std.specs.Map.{keys_of}
 use Rattle.std.proofs.lemmas.List.Elements.{All-contains}
-use Rattle.just_bench_bundle.specs.Places.{FindsIn, StandsIn}
+use Rattle.just_bench_bundle.specs.Places.{StandsIn}
+use Rattle.just_bench_bundle.specs.loops.Places.{FindsIn}
 use Rattle.just_bench_bundle.proofs.Walking.{is_key}
 use Rattle.just_bench_syntax.specs.Answers.{answers}
 use Rattle.just_loader.specs.Links.{To}

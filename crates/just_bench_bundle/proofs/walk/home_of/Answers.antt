@@ -4,8 +4,8 @@ use Rattle.std.specs.List.{slice_get}
 use Rattle.std.proofs.lemmas.Grind.{common_steps}
 use Rattle.std.proofs.lemmas.List.{length-map}
 use Rattle.std.proofs.lemmas.Option.{slice_get_read}
-use Rattle.just_bench_bundle.specs.Places.{FindsIn}
-use Rattle.just_bench_bundle.specs.Walk.{LeavesNone, found_in}
+use Rattle.just_bench_bundle.specs.loops.Places.{FindsIn}
+use Rattle.just_bench_bundle.specs.loops.Walk.{LeavesNone, found_in}
 use Rattle.just_bench_bundle.proofs.Walking.{none_home, started, told, visited}
 use Rattle.just_bench_syntax.specs.Answers.{answers}
 use Rattle.just_errors.specs.Causes.{NoHome}

@@ -1,5 +1,5 @@
 use Rattle.std.proofs.Common.{◌-◌, []}
-use Rattle.just_bench_bundle.specs.Walk.{count_in}
+use Rattle.just_bench_bundle.specs.loops.Walk.{count_in}
 use Rattle.just_bench_syntax.specs.Answers.{answers}
 use Rattle.just_loader.specs.Reached.{world_of}
 use Rattle.just_bench_bundle.proofs.Walking.{WalkedSoFar}

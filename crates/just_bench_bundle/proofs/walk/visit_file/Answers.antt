@@ -1,6 +1,6 @@
 use Rattle.std.proofs.Common.{Some, None, map, subst}
 use Rattle.std.specs.Prelude.{IfNone, IfSome}
-use Rattle.just_bench_bundle.specs.Places.{HasItems}
+use Rattle.just_bench_bundle.specs.loops.Places.{HasItems}
 use Rattle.just_bench_bundle.proofs.Standing.{finds_ok, leads_nowhere, none_in}
 use Rattle.just_bench_bundle.proofs.Walking.{leaves_file, walks_file}
 use Rattle.just_errors.specs.Causes.{NoHome}

@@ -1,5 +1,5 @@
 use Rattle.std.proofs.Common.{◌≡◌, ◌∙◌, [], ap, inl, inr}
-use Rattle.just_bench_bundle.specs.Walk.{LeadAmong}
+use Rattle.just_bench_bundle.specs.loops.Walk.{LeadAmong}
 use Rattle.just_bench_bundle.proofs.Standing.{among_all, among_more, is_among, none_all, none_more}
 use Rattle.just_bench_bundle.proofs.Walking.{walks_on}
 use Rattle.just_bench_syntax.specs.Answers.{answers}

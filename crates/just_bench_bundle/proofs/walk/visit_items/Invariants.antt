@@ -1,7 +1,7 @@
 use Rattle.std.proofs.Common.{ℕ, [], take}
 use Rattle.std.specs.List.{Contains}
 use Rattle.just_bench_bundle.specs.Places.{StandsOn}
-use Rattle.just_bench_bundle.specs.Walk.{LeadAmong, LeavesNone, Walks}
+use Rattle.just_bench_bundle.specs.loops.Walk.{LeadAmong, LeavesNone, Walks}
 use Rattle.just_bench_syntax.specs.Answers.{answers}
 use Rattle.just_errors.specs.Causes.{NoHome}
 use Rattle.just_loader.specs.Links.{Fault, link_by}

@@ -1,6 +1,6 @@
 use Rattle.std.proofs.Common.{◌≡◌, ◌+◌, length, map, take}
 use Rattle.just_parts.specs.Bare.{bare_function_parameter}
-use Rattle.just_bench_syntax.specs.Numbering.{AreNumberedInTurn}
+use Rattle.just_bench_syntax.specs.loops.Numbering.{AreNumberedInTurn}
 use Rattle.just_bench_syntax.proofs.item_numbers.number_function_parameters.Given as goal
 
 abbrev pub invariant-loop-place : goal.invariant-loop-place

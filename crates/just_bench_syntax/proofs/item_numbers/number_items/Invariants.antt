@@ -2,7 +2,8 @@ use Rattle.std.proofs.Common.{◌≡◌, ◌+◌, ◌≤◌, length, map, take, 
 use Rattle.std.specs.List.{All}
 use Rattle.just_parts.specs.Bare.{bare_item}
 use Rattle.just_parts.specs.Syntax.{ItemCameBy, numbers}
-use Rattle.just_bench_syntax.specs.Numbering.{AreNumberedInTurn, counted}
+use Rattle.just_bench_syntax.specs.Numbering.{counted}
+use Rattle.just_bench_syntax.specs.loops.Numbering.{AreNumberedInTurn}
 use Rattle.just_bench_syntax.proofs.item_numbers.number_items.Given as goal
 
 abbrev pub invariant-loop-place : goal.invariant-loop-place

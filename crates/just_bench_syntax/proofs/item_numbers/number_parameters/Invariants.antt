@@ -1,7 +1,7 @@
 use Rattle.std.proofs.Common.{◌≡◌, ◌+◌, length, map, take}
 use Rattle.just_parts.specs.Bare.{bare_parameter}
 use Rattle.just_parts.specs.Syntax.{parameter_numbers}
-use Rattle.just_bench_syntax.specs.Numbering.{AreNumberedInTurn}
+use Rattle.just_bench_syntax.specs.loops.Numbering.{AreNumberedInTurn}
 use Rattle.just_bench_syntax.proofs.item_numbers.number_parameters.Given as goal
 
 abbrev pub invariant-loop-place : goal.invariant-loop-place

@@ -4,7 +4,7 @@ use Rattle.std.specs.Str.{bytes_eq}
 use Rattle.std.proofs.lemmas.Grind.{common_steps}
 use Rattle.just_names.specs.Index.{name_at}
 use Rattle.just_names.proofs.Indexing.{different_more, index_more, texts_apart}
-use Rattle.just_bench_syntax.specs.Recipe.{spoken_of}
+use Rattle.just_bench_syntax.specs.loops.Recipe.{spoken_of}
 use Rattle.just_bench_syntax.proofs.Spoken.{again_told, all_found, fits_on, name_spoken, named_index, unknown_told}
 use Rattle.just_bench_syntax.proofs.recipe.places_of.Goals as goal
 

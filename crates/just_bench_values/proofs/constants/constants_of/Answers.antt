@@ -9,7 +9,8 @@ use Rattle.just_parts.specs.Evaluator.{FaultsAt, wanted_by}
 use Rattle.just_parts.specs.Needs.{same_number}
 use Rattle.just_names.specs.Token.{Place}
 use Rattle.just_parts.specs.Told.{IsPlaceInOne, assigned_values}
-use Rattle.just_bench_values.specs.Constants.{Adds, demanded}
+use Rattle.just_bench_values.specs.Constants.{demanded}
+use Rattle.just_bench_values.specs.loops.Constants.{Adds}
 use Rattle.just_bench_values.specs.Lookup.{table_values}
 use Rattle.just_bench_values.proofs.Along.{Listed, listed_more, scope_is}
 use Rattle.just_bench_values.proofs.Ended.{binds, constants_are, refused}

@@ -1,5 +1,5 @@
 use Rattle.std.proofs.Common.{◌∙◌, ap, refl}
-use Rattle.just_bench_values.specs.Tasks.{with_task}
+use Rattle.just_bench_values.specs.loops.Tasks.{with_task}
 use Rattle.just_bench_values.specs.declared.sink.Sink.TheVariants as sink
 use Rattle.just_bench_values.specs.declared.tasks.Task.TheVariants as task
 use Rattle.just_bench_values.proofs.Continuing.{goes_argument, none_left}

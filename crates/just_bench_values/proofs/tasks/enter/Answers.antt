@@ -2,7 +2,7 @@ use Rattle.std.proofs.Common.{◌≡◌, ap, arith, rules, refl, Some}
 use Rattle.just_names.specs.Name.{text_of_name}
 use Rattle.just_table.specs.Entries.{find}
 use Rattle.just_bench_values.specs.Lookup.{functions_in}
-use Rattle.just_bench_values.specs.Tasks.{with_call}
+use Rattle.just_bench_values.specs.loops.Tasks.{with_call}
 use Rattle.just_bench_values.specs.Values.{bound}
 use Rattle.just_bench_values.specs.declared.tasks.Task.TheVariants as task
 use Rattle.just_bench_values.proofs.Continuing.{goes_in}

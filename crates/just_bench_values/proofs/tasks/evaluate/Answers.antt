@@ -1,7 +1,7 @@
 use Rattle.std.proofs.Common.{◌≡◌, sym, ◌∙◌, subst, arith, refl, [], None}
 use Rattle.just_ast_references.specs.References.{shape_mention}
 use Rattle.just_ast_references.proofs.MentionsOf.{mentions}
-use Rattle.just_bench_values.specs.Tasks.{Goes, call_in, variable_in, with_task}
+use Rattle.just_bench_values.specs.loops.Tasks.{Goes, call_in, variable_in, with_task}
 use Rattle.just_bench_values.specs.Values.{shape_evaluated}
 use Rattle.just_bench_values.specs.declared.tasks.Task.TheVariants as task
 use Rattle.just_bench_values.proofs.Going as going

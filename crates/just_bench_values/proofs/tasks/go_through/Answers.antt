@@ -1,5 +1,5 @@
 use Rattle.std.proofs.Common.{refl}
-use Rattle.just_bench_values.specs.Tasks.{with_task}
+use Rattle.just_bench_values.specs.loops.Tasks.{with_task}
 use Rattle.just_bench_values.specs.declared.tasks.Task.TheVariants as task
 use Rattle.just_bench_values.proofs.Continuing.{goes_elements}
 use Rattle.just_bench_values.proofs.Going.{goes_to, pushed_two}

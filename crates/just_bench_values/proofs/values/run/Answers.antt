@@ -1,5 +1,5 @@
 use Rattle.std.proofs.Common.{sym, ◌∙◌, ap, subst, arith, rules}
-use Rattle.just_bench_values.specs.Tasks.{IsPlaceOfOne, left, ran}
+use Rattle.just_bench_values.specs.loops.Tasks.{IsPlaceOfOne, left, ran}
 use Rattle.just_bench_values.proofs.Told.{tells_fault}
 use Rattle.just_bench_values.proofs.values.run.Goals as goal
 

@@ -1,6 +1,6 @@
 use Rattle.std.proofs.Common.{◌≡◌}
 use Rattle.just_names.specs.Token.{Place}
-use Rattle.just_bench_values.specs.Tasks.{IsPlaceOfOne, left, outcome_of}
+use Rattle.just_bench_values.specs.loops.Tasks.{IsPlaceOfOne, left, outcome_of}
 use Rattle.just_bench_values.proofs.values.run.Given as goal
 
 abbrev pub invariant-loop-task : goal.invariant-loop-task

@@ -14,7 +14,7 @@ use Rattle.just_module_headers.specs.Joined.{AreArranged, AreGraphs}
 use Rattle.just_compiled.specs.Labelled.{labelled_as}
 use Rattle.just_module_tree.specs.Modules.{heading}
 use Rattle.just_module_headers.specs.OfPlaces.{RepeatsNames}
-use Rattle.just_compiler.specs.Steps.{BreaksInOrder, CanCompileAll, HaveCompiled, made_in}
+use Rattle.just_compiler.specs.loops.Steps.{BreaksInOrder, CanCompileAll, HaveCompiled, made_in}
 use Rattle.just_compiler.proofs.Analyzing.{all_can, broken_named, files_there, go_deeper, is_analyzed, repeats_named, root_held, rows_many}
 use Rattle.just_module_headers.proofs.FilePlaces.{are_graphs, place_back}
 use Rattle.just_module_headers.proofs.Holding.{holds_all, place_known}

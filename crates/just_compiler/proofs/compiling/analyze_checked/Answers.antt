@@ -4,7 +4,7 @@ use Rattle.just_module_contents.specs.Defaults.{IsDefaultAmong}
 use Rattle.just_module_contents.specs.Definitions.{contents_in, recipes_in}
 use Rattle.just_module_contents.specs.Named.{recipes_by}
 use Rattle.just_parts.specs.Layers.{given_by, layers_at}
-use Rattle.just_compiler.specs.Parts.{AreLinkedIn, around_by}
+use Rattle.just_compiler.specs.loops.Parts.{AreLinkedIn, around_by}
 use Rattle.just_compiler.proofs.compiling.analyze_checked.Goals as goal
 
 pub returns-in_err-append-clause-named : goal.returns-in_err-append-clause-named

@@ -3,7 +3,7 @@ use Rattle.std.proofs.lemmas.Grind.{common_steps}
 use Rattle.std.proofs.lemmas.Result.{IfErr-weaker}
 use Rattle.just_errors.specs.Causes.{Reports}
 use Rattle.just_parts.specs.Layers.{given_by}
-use Rattle.just_compiler.specs.Steps.{BreaksOver, made_in, not_yet}
+use Rattle.just_compiler.specs.loops.Steps.{BreaksOver, made_in, not_yet}
 use Rattle.just_compiler.proofs.Ordered.{all_so_far, apart_so_far, breaks_so_far, inner_so_far, more_so_far, room_so_far, settled_so_far}
 use Rattle.just_compiler.proofs.compiling.compile_in_order.Goals as goal
 

@@ -1,5 +1,5 @@
 use Rattle.just_parts.specs.Layers.{given_by}
-use Rattle.just_compiler.specs.Steps.{HaveCompiledSoFar, made_in}
+use Rattle.just_compiler.specs.loops.Steps.{HaveCompiledSoFar, made_in}
 use Rattle.just_compiler.proofs.compiling.compile_in_order.Given as goal
 
 abbrev pub invariant-loop-place : goal.invariant-loop-place

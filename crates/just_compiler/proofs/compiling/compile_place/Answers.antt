@@ -12,16 +12,17 @@ use Rattle.just_module_contents.specs.Definitions.{contents_in}
 use Rattle.just_module_headers.specs.Files.{asts_in}
 use Rattle.just_module_contents.specs.Groups.{BreaksContents}
 use Rattle.just_module_checks.specs.Checked.{no_links}
-use Rattle.just_module_assembly.specs.Noted.{notes_of_place}
-use Rattle.just_compiler.specs.Parts.{TellsChecked, around_by}
-use Rattle.just_compiler.specs.Steps.{BreaksOver, BreaksPlace, made_in}
-use Rattle.just_module_headers.specs.OfPlaces.{contents_of_place}
+use Rattle.just_module_assembly.specs.loops.Noted.{notes_of_place}
+use Rattle.just_compiler.specs.loops.Parts.{TellsChecked, around_by}
+use Rattle.just_compiler.specs.loops.Steps.{BreaksOver, BreaksPlace, made_in}
+use Rattle.just_module_headers.specs.loops.OfPlaces.{contents_of_place}
 use Rattle.just_compiler.proofs.Linking.{links_of, recipes_kept_over}
 use Rattle.just_compiled.proofs.Settling.{around_settled, named_settled, ordered_by_name, settled_ordered}
 use Rattle.just_graph.proofs.Members.{contained}
 use Rattle.just_justfile.specs.Walks.{AreOrdered}
 use Rattle.just_module_contents.specs.declared.notes.Notes.{Notes}
-use Rattle.just_module_recipes.specs.Links.{Around, around as around_made, links_by, told_by}
+use Rattle.just_module_recipes.specs.Links.{Around, around as around_made}
+use Rattle.just_module_recipes.specs.loops.Links.{links_by, told_by}
 use Rattle.just_module_contents.specs.Named.{contents_from, naming_by, said_from, variable_by}
 use Rattle.just_module_contents.specs.Resolved.{HasPriors, unresolved_numbers}
 use Rattle.just_module_headers.proofs.Joining.{row_lent}

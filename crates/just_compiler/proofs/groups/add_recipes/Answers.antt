@@ -2,7 +2,7 @@ use Rattle.std.proofs.Common.{◌≡◌, ◌∙◌, Some, ap, refl, subst, rules
 use Rattle.std.proofs.lemmas.Result.{IfErr-weaker}
 use Rattle.just_errors.specs.Causes.{Keeps, Reports}
 use Rattle.just_errors.proofs.Lifts.{reports_by}
-use Rattle.just_compiler.specs.Parts.{around_by, completion_here}
+use Rattle.just_compiler.specs.loops.Parts.{around_by, completion_here}
 use Rattle.just_compiler.proofs.OwnNumbers.{all_recipes_kept, default_standing}
 use Rattle.just_compiled.proofs.AliasTargets.{targets_known, unknown_on}
 use Rattle.just_compiled.specs.Analysis.{recipe_table}
@@ -13,7 +13,7 @@ use Rattle.just_module_contents.specs.Named.{recipes_by}
 use Rattle.just_module_variables.specs.Constants.{evaluated_in}
 use Rattle.just_parts.specs.Layers.{given_by, layers_at}
 use Rattle.just_module_aliases.specs.Aliased.{Targets, UnknownTargets, aliases_of, targets}
-use Rattle.just_module_recipes.specs.Broken.{BreaksRecipes, in_aliases}
+use Rattle.just_module_recipes.specs.loops.Broken.{BreaksRecipes, in_aliases}
 use Rattle.just_module_recipes.specs.Links.{of_defaults, of_targets}
 use Rattle.just_compiler.proofs.groups.add_recipes.Goals as goal
 

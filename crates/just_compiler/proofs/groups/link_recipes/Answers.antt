@@ -4,7 +4,7 @@ use Rattle.std.specs.List.{All}
 use Rattle.std.specs.HashMap.{get}
 use Rattle.std.specs.Str.{bytes_eq}
 use Rattle.std.proofs.lemmas.Result.{IfErr-weaker, IfOk-weaker}
-use Rattle.just_compiler.specs.Parts.{TellsChecked, around_by, completion_here}
+use Rattle.just_compiler.specs.loops.Parts.{TellsChecked, around_by, completion_here}
 use Rattle.just_errors.specs.Causes.{Cause, Keeps, Reports}
 use Rattle.just_errors.proofs.Lifts.{reports_by}
 use Rattle.just_graph.proofs.Members.{contained, is_in}
@@ -17,7 +17,7 @@ use Rattle.just_module_contents.specs.Resolved.{AreNew, HasPriors, unresolved_nu
 use Rattle.just_module_contents.specs.Rules.{BreaksBodies}
 use Rattle.just_module_contents.specs.Standing.{InStanding}
 use Rattle.just_module_contents.proofs.Keeping.{kept_all, kept_different, kept_number, kept_once}
-use Rattle.just_module_recipes.specs.Broken.{BreaksRecipes, in_bodies}
+use Rattle.just_module_recipes.specs.loops.Broken.{BreaksRecipes, in_bodies}
 use Rattle.just_module_recipes.specs.Completed.{TellsLinks}
 use Rattle.just_module_recipes.specs.Links.{BreaksLinks, Stands, around}
 use Rattle.just_names.specs.Index.{AreDifferent}

@@ -2,7 +2,7 @@ use Rattle.std.proofs.Common.{◌≡◌, ◌∙◌, ◌<◌, ap, length, map, re
 use Rattle.std.specs.Option.{option_copied}
 use Rattle.just_names.specs.Name.{text_of_name}
 use Rattle.just_parts.specs.Evaluator.{values_of}
-use Rattle.just_evaluate.specs.Bindings.{bound_behind}
+use Rattle.just_evaluate.specs.loops.Bindings.{bound_behind}
 use Rattle.just_evaluate.proofs.Bound.{bound_more, unbound_more}
 use Rattle.just_evaluate.proofs.bindings.bound_among.Goals as goal
 use Rattle.just_evaluate.proofs.bindings.bound_among.Goals.{in-Some+in_ok-push, in_default}

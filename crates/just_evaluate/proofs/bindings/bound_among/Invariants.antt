@@ -1,5 +1,5 @@
 use Rattle.std.proofs.Common.{◌≡◌, filter_map, map, take}
-use Rattle.just_evaluate.specs.Bindings.{bound_behind}
+use Rattle.just_evaluate.specs.loops.Bindings.{bound_behind}
 use Rattle.just_evaluate.specs.Lines.{bound_in}
 use Rattle.just_evaluate.proofs.bindings.bound_among.Given as goal
 

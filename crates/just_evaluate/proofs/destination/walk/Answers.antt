@@ -1,6 +1,6 @@
 use Rattle.std.proofs.Common.{◌∙◌, [], ap, arith, drop, sym}
 use Rattle.std.proofs.lemmas.List.{drop_all}
-use Rattle.just_evaluate.specs.Steps.{destination_by}
+use Rattle.just_evaluate.specs.loops.Steps.{destination_by}
 use Rattle.just_evaluate.proofs.destination.walk.Goals as goal
 
 pub returns-in-Variable-clause-led : goal.returns-in-Variable-clause-led

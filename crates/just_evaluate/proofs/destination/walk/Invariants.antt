@@ -1,6 +1,6 @@
 use Rattle.std.proofs.Common.{◌≡◌, drop}
 use Rattle.just_evaluate.specs.Destination.{destination_from}
-use Rattle.just_evaluate.specs.Steps.{IsStepOrdered, destination_by}
+use Rattle.just_evaluate.specs.loops.Steps.{IsStepOrdered, destination_by}
 use Rattle.just_evaluate.proofs.destination.walk.Given as goal
 
 abbrev pub invariant-loop-at : goal.invariant-loop-at

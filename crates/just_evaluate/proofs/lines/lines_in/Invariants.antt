@@ -1,5 +1,5 @@
 use Rattle.std.proofs.Common.{◌≡◌, flat_map, map, string_bytes, take}
-use Rattle.just_evaluate.specs.Bindings.{bound_behind}
+use Rattle.just_evaluate.specs.loops.Bindings.{bound_behind}
 use Rattle.just_evaluate.specs.Lines.{line_in}
 use Rattle.just_evaluate.proofs.lines.lines_in.Given as goal
 

@@ -1,5 +1,5 @@
 use Rattle.std.proofs.Common.{◌≡◌, map, take}
-use Rattle.just_evaluate.specs.Bindings.{bound_behind}
+use Rattle.just_evaluate.specs.loops.Bindings.{bound_behind}
 use Rattle.just_evaluate.specs.Lines.{name_width}
 use Rattle.just_evaluate.proofs.lines.name_width.Given as goal
 

@@ -5,9 +5,11 @@ use Rattle.just_recipe.specs.Recipes.{numbers}
 use Rattle.just_recipe.specs.declared.dependency.Dependency.{Dependency}
 use Rattle.just_run_layers.specs.Covering.{module_of}
 use Rattle.just_run_layers.proofs.InteractionLemmas.{exited, keeps-self, keeps-then}
-use Rattle.just_execution.specs.Arguments.{AreReadableGroups, IsGivenIn, dependencies_steps, dependency_steps, tasks_with}
-use Rattle.just_execution.specs.Frames.{items_of_frames}
-use Rattle.just_execution.specs.TaskInteractions.{AsksAlone, surrounded}
+use Rattle.just_execution.specs.Arguments.{dependencies_steps, dependency_steps, tasks_with}
+use Rattle.just_execution.specs.loops.Arguments.{AreReadableGroups, IsGivenIn}
+use Rattle.just_execution.specs.loops.Frames.{items_of_frames}
+use Rattle.just_execution.specs.TaskInteractions.{surrounded}
+use Rattle.just_execution.specs.loops.TaskInteractions.{AsksAlone}
 use Rattle.just_execution.specs.Scene.{contents_of}
 use Rattle.just_execution.specs.declared.task.Task.{Task}
 use Rattle.just_execution.proofs.Gathered.{Continues, gathered-all, gathered-next, gathered-out, gathered-start, gathered-stop}

@@ -3,8 +3,8 @@ use Rattle.just_errors.specs.declared.halt.Halt.{Halt}
 use Rattle.just_run_layers.specs.Covering.{module_of}
 use Rattle.just_run_layers.specs.Interactions.{log_of}
 use Rattle.just_run_layers.proofs.InteractionLemmas.{exited, keeps-then}
-use Rattle.just_execution.specs.Arguments.{IsGivenIn}
-use Rattle.just_execution.specs.TaskInteractions.{Prepares, prepared_of}
+use Rattle.just_execution.specs.loops.Arguments.{IsGivenIn}
+use Rattle.just_execution.specs.loops.TaskInteractions.{Prepares, prepared_of}
 use Rattle.just_execution.specs.Scene.{scene_in}
 use Rattle.just_execution.specs.declared.questions.Preparation.{Preparation}
 use Rattle.just_execution.proofs.Covered.{arguments-given, held-serves, parameters-covered}

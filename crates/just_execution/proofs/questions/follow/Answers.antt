@@ -1,6 +1,6 @@
 use Rattle.just_run_layers.specs.Covering.{module_of}
-use Rattle.just_execution.specs.Arguments.{IsGivenIn}
-use Rattle.just_execution.specs.Frames.{items_of_frames}
+use Rattle.just_execution.specs.loops.Arguments.{IsGivenIn}
+use Rattle.just_execution.specs.loops.Frames.{items_of_frames}
 use Rattle.just_execution.proofs.Covered.{arguments-given}
 use Rattle.just_execution.proofs.Homes.{home-of, serves-in}
 use Rattle.just_execution.proofs.Lone.{running-subsequents}

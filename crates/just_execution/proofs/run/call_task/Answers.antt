@@ -3,9 +3,10 @@ use Rattle.just_run_layers.specs.Host.{Answer}
 use Rattle.just_run_layers.specs.Interactions.{Log, Question, both, log_of}
 use Rattle.just_execution.specs.declared.frame.Frame.{Frame}
 use Rattle.just_execution.specs.declared.frame.Frame.TheVariants.{Call, Block}
-use Rattle.just_execution.specs.Frames.{state_of, weight}
-use Rattle.just_execution.specs.Homes.{IsCallable, IsServed}
-use Rattle.just_execution.specs.TaskInteractions.{interactions_of, prepared}
+use Rattle.just_execution.specs.loops.Frames.{state_of, weight}
+use Rattle.just_execution.specs.loops.Homes.{IsCallable, IsServed}
+use Rattle.just_execution.specs.TaskInteractions.{interactions_of}
+use Rattle.just_execution.specs.loops.TaskInteractions.{prepared}
 use Rattle.just_execution.specs.Walking.{Prepared}
 use Rattle.just_execution.specs.Scene.{scene_in}
 use Rattle.just_execution.proofs.RunStates.{called-sound, counted-sound, pushed-calls}

@@ -5,7 +5,7 @@ use Rattle.just_run_layers.specs.Host.{Answer}
 use Rattle.just_run_layers.specs.Interactions.{Log, Question, HasTrace, both, log_of}
 use Rattle.just_run_layers.proofs.InteractionLemmas.{keeps-both, keeps-then, took-kept}
 use Rattle.just_execution.specs.declared.frame.Frame.{Frame}
-use Rattle.just_execution.specs.Frames.{continuation_from, continuation_of, state_of}
+use Rattle.just_execution.specs.loops.Frames.{continuation_from, continuation_of, state_of}
 use Rattle.just_execution.specs.TaskInteractions.{interactions_of}
 use Rattle.just_execution.specs.Walking.{TaskInteractions, State}
 use Rattle.just_execution.specs.Scene.{scene_in}

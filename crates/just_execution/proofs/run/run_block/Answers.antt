@@ -2,7 +2,7 @@ use Rattle.std.proofs.Common.{List, Option, rules}
 use Rattle.just_run_layers.specs.Host.{Answer}
 use Rattle.just_run_layers.specs.Interactions.{Log, Question, both, log_of}
 use Rattle.just_run_layers.proofs.InteractionLemmas.{keeps-both, keeps-then}
-use Rattle.just_execution.specs.Frames.{continuation_of, state_of}
+use Rattle.just_execution.specs.loops.Frames.{continuation_of, state_of}
 use Rattle.just_execution.specs.TaskInteractions.{interactions_of}
 use Rattle.just_execution.specs.declared.task.Task.{Task}
 use Rattle.just_execution.specs.Scene.{scene_in}

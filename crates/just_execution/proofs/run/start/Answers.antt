@@ -2,8 +2,8 @@ use Rattle.std.proofs.Common.{◌≢◌, [], Option, length, refl, rules}
 use Rattle.just_run_layers.specs.Host.{Answer}
 use Rattle.just_run_layers.specs.Interactions.{Question, both}
 use Rattle.just_run_layers.proofs.InteractionLemmas.{took-out}
-use Rattle.just_execution.specs.Frames.{state_of}
-use Rattle.just_execution.specs.Homes.{IsCallable, IsServed}
+use Rattle.just_execution.specs.loops.Frames.{state_of}
+use Rattle.just_execution.specs.loops.Homes.{IsCallable, IsServed}
 use Rattle.just_execution.specs.TaskInteractions.{interactions_of}
 use Rattle.just_execution.specs.Walking.{fresh_steps, walk_steps}
 use Rattle.just_execution.specs.Scene.{running, scene_in}

@@ -2,7 +2,7 @@ use Rattle.std.proofs.Common.{Option, sym, subst}
 use Rattle.just_run_layers.specs.Host.{Answer}
 use Rattle.just_run_layers.specs.Interactions.{Log, Question, HasTrace, both, log_of}
 use Rattle.just_execution.specs.declared.frame.Frame.{Frame}
-use Rattle.just_execution.specs.Frames.{Simulates, continuation_of, continuation_with, state_of}
+use Rattle.just_execution.specs.loops.Frames.{Simulates, continuation_of, continuation_with, state_of}
 use Rattle.just_execution.specs.TaskInteractions.{interactions_of}
 use Rattle.just_execution.specs.Scene.{scene_in}
 use Rattle.just_execution.proofs.FrameLemmas.{back-left}

@@ -1,6 +1,6 @@
 use Rattle.std.proofs.Common.{◌≡◌, [], ap, sym, ◌∙◌, rules, ◌++◌}
 use Rattle.std.proofs.lemmas.List.{append-nil}
-use Rattle.just_execution.specs.Frames.{calls_of}
+use Rattle.just_execution.specs.loops.Frames.{calls_of}
 use Rattle.just_execution.proofs.RunStates.{one-called}
 use Rattle.just_execution.proofs.run_state.push_calls.Goals as goal
 

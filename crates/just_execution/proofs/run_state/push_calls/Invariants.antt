@@ -1,5 +1,5 @@
 use Rattle.std.proofs.Common.{◌≡◌, ◌++◌, length}
-use Rattle.just_execution.specs.Frames.{calls_of}
+use Rattle.just_execution.specs.loops.Frames.{calls_of}
 use Rattle.just_execution.proofs.run_state.push_calls.Given as goal
 
 abbrev pub invariant-loop-task : goal.invariant-loop-task

@@ -1,5 +1,5 @@
 use Rattle.std.proofs.Common.{ℕ, ◌<◌, ◌∙◌, length, slice_index, refl, ap, arith}
-use Rattle.just_graph_order.specs.Finished.{Closed}
+use Rattle.just_graph_order.specs.loops.Finished.{Closed}
 use Rattle.just_graph.proofs.Targets.{row_inside}
 use Rattle.just_graph.proofs.Adding.{is_read}
 use Rattle.just_graph_order.proofs.Closing.{if_none, none_passing, none_found, none_seen, none_back, same_closed}

@@ -1,4 +1,4 @@
-use Rattle.just_graph_order.specs.Finished.{Closed}
+use Rattle.just_graph_order.specs.loops.Finished.{Closed}
 use Rattle.just_graph_order.proofs.Closing.{NoneBack}
 use Rattle.just_graph_order.proofs.circles.solid_circle.Given as goal
 

@@ -1,6 +1,6 @@
 use Rattle.std.proofs.Common.{◌≡◌, ℕ, ◌<◌, true, [], slice_index}
 use Rattle.just_graph.specs.Found.{is_seen}
-use Rattle.just_graph_order.specs.Finished.{Finishing}
+use Rattle.just_graph_order.specs.loops.Finished.{Finishing}
 use Rattle.just_graph_order.proofs.finishing.finish.Given as goal
 
 abbrev pub invariant-loop-place : goal.invariant-loop-place

@@ -1,7 +1,7 @@
 use Rattle.std.proofs.Common.{◌≡◌, ℕ, ◌+◌, true, length, slice_index}
 use Rattle.just_graph.specs.Found.{is_seen, unseen}
-use Rattle.just_graph_order.specs.Finished.{Finishing}
-use Rattle.just_graph_order.specs.Path.{nodes, counts}
+use Rattle.just_graph_order.specs.loops.Finished.{Finishing}
+use Rattle.just_graph_order.specs.loops.Path.{nodes, counts}
 use Rattle.just_graph_order.proofs.finishing.finish_from.Given as goal
 
 abbrev pub invariant-loop-frame : goal.invariant-loop-frame

@@ -9,7 +9,7 @@ use Rattle.just_parts.specs.Needs.{same_number}
 use Rattle.just_run_layers.proofs.InteractionLemmas.{keeps-then}
 use Rattle.just_run_layers.specs.Interactions.{log_of}
 use Rattle.just_scopes.specs.Opening.{handed_of, opened_of}
-use Rattle.just_invoke.specs.Command.{program_asked}
+use Rattle.just_invoke.specs.loops.Command.{program_asked}
 use Rattle.just_invoke.proofs.Commands.{holds-none, program-expected, program-ran, program-shut}
 use Rattle.just_invoke.proofs.command_run.run_command.Goals as goal
 

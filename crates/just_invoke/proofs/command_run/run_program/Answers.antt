@@ -8,7 +8,8 @@ use Rattle.just_run_layers.proofs.InteractionLemmas.{keeps-both, keeps-self, too
 use Rattle.just_recipe_body.specs.Taking.{AsksHost}
 use Rattle.just_recipe_body.proofs.StepEnds.{took-exit, took-gone}
 use Rattle.just_scopes.specs.Opening.{Opened, hands, opened_at, opened_of}
-use Rattle.just_invoke.specs.Command.{ProgramAsked, program_call_steps, command_call, root_environment_steps, program_asked}
+use Rattle.just_invoke.specs.Command.{ProgramAsked, program_call_steps, command_call, root_environment_steps}
+use Rattle.just_invoke.specs.loops.Command.{program_asked}
 use Rattle.just_invoke.proofs.command_run.run_program.Goals as goal
 
 abbrev first : Justfile → List Opened → Interaction (List EnvironmentChange)

@@ -3,7 +3,8 @@ use Rattle.std.specs.HashSet.{contains}
 use Rattle.just_parts.specs.Needs.{same_number}
 use Rattle.just_scopes.specs.Opening.{handed_of, opened_of}
 use Rattle.just_evaluate.specs.Lines.{evaluated_text}
-use Rattle.just_invoke.specs.Evaluation.{text_in, values_behind}
+use Rattle.just_invoke.specs.Evaluation.{text_in}
+use Rattle.just_invoke.specs.loops.Evaluation.{values_behind}
 use Rattle.just_invoke.proofs.Evaluations.{made-late, made-out, made-shut, made-text}
 use Rattle.just_invoke.proofs.evaluate_run.make_text.Goals as goal
 

@@ -5,7 +5,8 @@ use Rattle.just_errors.specs.declared.halt.Halt.{Halt}
 use Rattle.just_justfile.specs.Closed.{is_ordered}
 use Rattle.just_run_layers.specs.Interactions.{log_of}
 use Rattle.just_scopes.specs.Opening.{handed_of}
-use Rattle.just_invoke.specs.Evaluation.{LeadsToValues, refused, values_behind, writer_of}
+use Rattle.just_invoke.specs.Evaluation.{LeadsToValues, refused, writer_of}
+use Rattle.just_invoke.specs.loops.Evaluation.{values_behind}
 use Rattle.just_invoke.proofs.Evaluations.{evaluated-so, expected-so, leads-nowhere}
 use Rattle.just_invoke.proofs.evaluate_run.run_evaluate.Goals as goal
 

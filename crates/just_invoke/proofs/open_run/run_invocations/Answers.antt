@@ -8,7 +8,7 @@ use Rattle.just_run_layers.specs.Interactions.{log_of}
 use Rattle.just_scopes.specs.Open.{AreOpenModules, Opens}
 use Rattle.just_scopes.specs.Opening.{opened_of, setup_of}
 use Rattle.just_invoke.specs.Results.{RunEndsAs, shut}
-use Rattle.just_invoke.specs.Outcome.{tops_of}
+use Rattle.just_invoke.specs.loops.Outcome.{tops_of}
 use Rattle.just_invoke.proofs.Wholes.{comes-to}
 use Rattle.just_invoke.proofs.open_run.run_invocations.Goals as goal
 

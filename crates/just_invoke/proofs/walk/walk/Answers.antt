@@ -5,7 +5,8 @@ use Rattle.std.specs.Borrow.{Bor}
 use Rattle.just_names.specs.Texts.{Text, texts}
 use Rattle.just_invoke.specs.Cause.{cause_of}
 use Rattle.just_invoke.specs.Meaning.{meaning}
-use Rattle.just_invoke.specs.Head.{BadName, IsEnd, IsStep, WordsLead, goes_on, place_of}
+use Rattle.just_invoke.specs.Head.{WordsLead, goes_on, place_of}
+use Rattle.just_invoke.specs.loops.Head.{BadName, IsEnd, IsStep}
 use Rattle.just_invoke.proofs.Advancing.{Stands, leads_end, misleads_end, misleads_here, stands_next}
 use Rattle.just_invoke.proofs.walk.walk.Goals as goal
 

@@ -4,7 +4,8 @@ use Rattle.std.specs.Option.{option_copied}
 use Rattle.just_names.specs.Name.{text_of_name}
 use Rattle.just_names.specs.Texts.{Text}
 use Rattle.just_table.specs.Entries.{find}
-use Rattle.just_justfile.specs.Walks.{absent_in, module_named}
+use Rattle.just_justfile.specs.Walks.{module_named}
+use Rattle.just_justfile.specs.loops.Walks.{absent_in}
 use Rattle.just_justfile.proofs.Leading.{named_ordered}
 use Rattle.just_justfile.proofs.Walking.{entered, lost, missed, name_read}
 use Rattle.just_justfile.proofs.resolution.walk.Goals as goal

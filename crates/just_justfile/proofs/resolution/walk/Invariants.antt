@@ -1,7 +1,8 @@
 use Rattle.std.proofs.Common.{◌≡◌, map, take, drop}
 use Rattle.std.specs.Option.{option_copied}
 use Rattle.just_names.specs.Name.{text_of_name}
-use Rattle.just_justfile.specs.Walks.{AreOrdered, absent_in, end_of_names}
+use Rattle.just_justfile.specs.Walks.{AreOrdered, end_of_names}
+use Rattle.just_justfile.specs.loops.Walks.{absent_in}
 use Rattle.just_justfile.proofs.Walking.{resumed}
 use Rattle.just_justfile.proofs.resolution.walk.Given as goal
 

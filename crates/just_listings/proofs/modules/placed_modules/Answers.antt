@@ -1,7 +1,7 @@
 use Rattle.std.proofs.Common.{◌≡◌, ◌∙◌, List, Bor, ap, map, refl, subst, sym, true, false, rules}
 use Rattle.std.specs.List.{All}
 use Rattle.just_justfile.specs.declared.justfile.Justfile.{Justfile}
-use Rattle.just_listings.specs.Order.{item_behind}
+use Rattle.just_listings.specs.loops.Order.{item_behind}
 use Rattle.just_listings.specs.Public.{is_public_module, module_place}
 use Rattle.just_listings.specs.declared.order.Placed.{Placed}
 use Rattle.just_listings.proofs.Listed.{all_passed, all_pushed, more_kept, more_left}

@@ -1,6 +1,6 @@
 use Rattle.std.proofs.Common.{◌≡◌, map, take}
 use Rattle.std.specs.List.{All, filter}
-use Rattle.just_listings.specs.Order.{item_behind}
+use Rattle.just_listings.specs.loops.Order.{item_behind}
 use Rattle.just_listings.specs.Public.{is_public_module, module_place}
 use Rattle.just_listings.proofs.modules.placed_modules.Given as goal
 

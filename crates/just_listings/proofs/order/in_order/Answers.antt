@@ -2,7 +2,8 @@ use Rattle.std.proofs.Common.{◌≡◌, List, refl, sym, subst, rules}
 use Rattle.std.specs.Ordering.{is_lt}
 use Rattle.std.proofs.lemmas.List.MinMax.{ranks_by}
 use Rattle.std.proofs.lemmas.List.Sorted.{answers_always}
-use Rattle.just_listings.specs.Order.{IsByKey, placed_at, place_order}
+use Rattle.just_listings.specs.Order.{IsByKey, place_order}
+use Rattle.just_listings.specs.loops.Order.{placed_at}
 use Rattle.just_listings.specs.declared.order.Place.{Place}
 use Rattle.just_listings.specs.declared.order.Placed.{Placed}
 use Rattle.just_listings.proofs.Ordering.{ordered, place_total, sorted_by_key, unordered}

@@ -4,7 +4,7 @@ use Rattle.just_recipe.specs.Recipes.{find_number}
 use Rattle.just_recipe.specs.declared.dependency.Dependency.{Dependency}
 use Rattle.just_recipe.specs.declared.recipe.Recipe.{Recipe}
 use Rattle.just_recipe_run.specs.Calls.{is_public}
-use Rattle.just_listings.specs.Order.{item_behind}
+use Rattle.just_listings.specs.loops.Order.{item_behind}
 use Rattle.just_listings.specs.Public.{recipe_place}
 use Rattle.just_listings.specs.declared.order.Placed.{Placed}
 use Rattle.just_listings.proofs.Listed.{all_pushed, next_kept, next_left, next_missing}

@@ -1,7 +1,7 @@
 use Rattle.std.proofs.Common.{◌≡◌, map}
 use Rattle.std.specs.List.{All, filter}
 use Rattle.just_recipe_run.specs.Calls.{is_public}
-use Rattle.just_listings.specs.Order.{item_behind}
+use Rattle.just_listings.specs.loops.Order.{item_behind}
 use Rattle.just_listings.specs.Public.{recipe_place, recipes_named}
 use Rattle.just_listings.proofs.recipes.placed_recipes.Given as goal
 

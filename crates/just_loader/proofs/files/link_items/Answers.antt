@@ -2,7 +2,7 @@ use Rattle.std.proofs.Common.{◌<◌, ◌∙◌, None, ap, get_or, length, map,
 use Rattle.std.proofs.lemmas.List.{length-map, length-set}
 use Rattle.just_loader.specs.Loaded.{with_path}
 use Rattle.just_loader.specs.Reached.{link}
-use Rattle.just_loader.specs.Scanned.{paths_in}
+use Rattle.just_loader.specs.loops.Scanned.{paths_in}
 use Rattle.just_loader.proofs.Scanning.{places_count}
 use Rattle.just_loader.proofs.WithPaths.{paths_more, place_here, place_inside}
 use Rattle.just_loader.proofs.files.link_items.Goals as goal

@@ -1,7 +1,7 @@
 use Rattle.std.proofs.Common.{◌≡◌, ℕ, List, length, map}
 use Rattle.just_loader.specs.Loaded.{with_path}
 use Rattle.just_loader.specs.Reached.{World, link}
-use Rattle.just_loader.specs.Scanned.{ArePlacesOf, paths_in}
+use Rattle.just_loader.specs.loops.Scanned.{ArePlacesOf, paths_in}
 use Rattle.just_loader.proofs.WithPaths.{half}
 use Rattle.just_loader.proofs.files.link_items.Given as goal
 

@@ -7,9 +7,9 @@ use Rattle.just_parts.specs.Asts.{same_ast_key}
 use Rattle.just_loader.specs.Keys.{BreaksFiles, no_root, at_fault, in_circle}
 use Rattle.just_loader.specs.FileCircles.{BreaksCircle}
 use Rattle.just_errors.specs.Causes.{Reports}
-use Rattle.just_loader.specs.Placed.{at_first_places}
-use Rattle.just_loader.specs.Loading.{AreParsed, IsScanBy, spent_by}
-use Rattle.just_loader.specs.Parsed.{AreHeld, AreKeyed, relative_at}
+use Rattle.just_loader.specs.loops.Placed.{at_first_places}
+use Rattle.just_loader.specs.loops.Loading.{AreParsed, IsScanBy, spent_by}
+use Rattle.just_loader.specs.loops.Parsed.{AreHeld, AreKeyed, relative_at}
 use Rattle.just_loader.specs.Reached.{World, world_of, BreaksInScan}
 use Rattle.just_loader.proofs.ComingIn.{are_unfolded}
 use Rattle.just_loader.proofs.InPaths.{is_loaded}

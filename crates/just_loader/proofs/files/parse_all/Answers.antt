@@ -1,6 +1,6 @@
 use Rattle.std.proofs.Common.{◌≡◌, IfErr, rules, subst, sym}
 use Rattle.just_errors.specs.declared.error.Error.{Error}
-use Rattle.just_loader.specs.Loading.{IsScanBy, Stops}
+use Rattle.just_loader.specs.loops.Loading.{IsScanBy, Stops}
 use Rattle.just_loader.specs.Reached.{World}
 use Rattle.just_loader.proofs.Parsings.{err_by, stops_unless}
 use Rattle.just_loader.proofs.ReadTexts.{none_read}

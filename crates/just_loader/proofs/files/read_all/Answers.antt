@@ -6,10 +6,10 @@ use Rattle.just_graph.specs.declared.unfolding.Unfolded.{Unfolded}
 use Rattle.just_parts.specs.Items.{Ast}
 use Rattle.just_errors.specs.declared.error.Error.{Error}
 use Rattle.just_loader.specs.Keys.{spends_at}
-use Rattle.just_loader.specs.Placed.{file_at}
-use Rattle.just_loader.specs.Loading.{IsScanBy, KeepsLaws, Stops, StopsAt, spent_by}
+use Rattle.just_loader.specs.loops.Placed.{file_at}
+use Rattle.just_loader.specs.loops.Loading.{IsScanBy, KeepsLaws, Stops, StopsAt, spent_by}
 use Rattle.just_loader.specs.Reached.{World}
-use Rattle.just_loader.specs.Reading.{AreApartBelow}
+use Rattle.just_loader.specs.loops.Reading.{AreApartBelow}
 use Rattle.just_loader.proofs.FileKeys.{node_inside}
 use Rattle.just_loader.proofs.ParsedFiles.{spent_at}
 use Rattle.just_loader.proofs.Parsings.{all_more, ast_at, err_by, parsed_more, parsed_none, read, spent_more, stops_at_last}

@@ -1,9 +1,9 @@
 use Rattle.std.proofs.Common.{◌≡◌, ◌≤◌, ◌+◌, ◌^◌, ◌++◌, List, Some, length, map, take}
 use Rattle.std.specs.List.{All}
 use Rattle.just_graph.specs.Unfolding.{Node}
-use Rattle.just_loader.specs.Loading.{AreNodes, AreParsedSoFar, IsScanBy, KeepsLaws, spent_by}
+use Rattle.just_loader.specs.loops.Loading.{AreNodes, AreParsedSoFar, IsScanBy, KeepsLaws, spent_by}
 use Rattle.just_loader.specs.Reached.{World}
-use Rattle.just_loader.specs.Reading.{AreApartBelow, AreReadOf, spent_on}
+use Rattle.just_loader.specs.loops.Reading.{AreApartBelow, AreReadOf, spent_on}
 use Rattle.just_loader.proofs.files.read_all.Given as goal
 
 abbrev pub invariant-loop-place : goal.invariant-loop-place

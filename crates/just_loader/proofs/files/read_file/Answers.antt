@@ -5,11 +5,11 @@ use Rattle.just_parts.specs.Syntax.{AttributesNameParameters, PriorsAreDependenc
 use Rattle.just_errors.specs.declared.error.Error.{Error}
 use Rattle.just_loader.specs.Keys.{spends_at}
 use Rattle.just_loader.specs.Loaded.{with_path}
-use Rattle.just_loader.specs.Placed.{file_at}
-use Rattle.just_loader.specs.Loading.{IsScanBy, StopsAt}
+use Rattle.just_loader.specs.loops.Placed.{file_at}
+use Rattle.just_loader.specs.loops.Loading.{IsScanBy, StopsAt}
 use Rattle.just_loader.specs.Reached.{World, link}
-use Rattle.just_loader.specs.Reading.{TakesText, takes}
-use Rattle.just_loader.specs.Scanned.{ArePlacesOf, paths_in}
+use Rattle.just_loader.specs.loops.Reading.{TakesText, takes}
+use Rattle.just_loader.specs.loops.Scanned.{ArePlacesOf, paths_in}
 use Rattle.just_loader.proofs.ParsedFiles.{attributes_kept, places, priors_kept, said, stopped_err, stops_at}
 use Rattle.just_loader.proofs.Parsings.{read}
 use Rattle.just_loader.proofs.WithPaths.{all_linked, with_paths_numbers}

@@ -2,9 +2,9 @@ use Rattle.std.proofs.Common.{◌≡◌, ◌∙◌, ◌<◌, length, ap, sym, su
 use Rattle.just_graph.specs.declared.unfolding.Step.{Step}
 use Rattle.just_paths.specs.Clean.{IsClean}
 use Rattle.just_source.specs.declared.source.Source.{Source}
-use Rattle.just_loader.specs.Loading.{CameInWorlds}
-use Rattle.just_loader.specs.Placed.{file_at}
-use Rattle.just_loader.specs.Scanned.{EntersName}
+use Rattle.just_loader.specs.loops.Loading.{CameInWorlds}
+use Rattle.just_loader.specs.loops.Placed.{file_at}
+use Rattle.just_loader.specs.loops.Scanned.{EntersName}
 use Rattle.just_loader.proofs.ComingIn.{came_by, came_over, came_root, element_is, over, path_clean, path_is, row_inside, step_inside, step_is}
 use Rattle.just_loader.proofs.FileKeys.{node_inside}
 use Rattle.just_loader.proofs.files.source_of.Goals as goal

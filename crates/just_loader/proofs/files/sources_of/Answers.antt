@@ -1,7 +1,7 @@
 use Rattle.std.proofs.Common.{◌≡◌, ◌∙◌, length, slice_get, refl, ap, sym, subst, arith}
 use Rattle.std.proofs.lemmas.List.{length_push}
 use Rattle.std.proofs.lemmas.Option.{slice_get_read}
-use Rattle.just_loader.specs.Loading.{CameInSoFar}
+use Rattle.just_loader.specs.loops.Loading.{CameInSoFar}
 use Rattle.just_loader.proofs.ComingIn.{came_more, came_none}
 use Rattle.just_loader.proofs.files.sources_of.Goals as goal
 

@@ -1,6 +1,6 @@
 use Rattle.std.proofs.Common.{◌≡◌, List, length}
 use Rattle.just_graph.specs.Unfolding.{Node}
-use Rattle.just_loader.specs.Loading.{AreNodes, CameInSoFar}
+use Rattle.just_loader.specs.loops.Loading.{AreNodes, CameInSoFar}
 use Rattle.just_loader.proofs.files.sources_of.Given as goal
 
 abbrev pub invariant-loop-node : goal.invariant-loop-node

@@ -1,6 +1,6 @@
 use Rattle.std.proofs.Common.{◌<◌, ◌∙◌, length, arith}
 use Rattle.std.proofs.lemmas.List.{length-set}
-use Rattle.just_loader.specs.Reading.{brought_in}
+use Rattle.just_loader.specs.loops.Reading.{brought_in}
 use Rattle.just_loader.proofs.WithPaths.{half_more}
 use Rattle.just_loader.proofs.reading.bring_in_items.Goals as goal
 

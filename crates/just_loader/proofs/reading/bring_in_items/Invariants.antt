@@ -1,5 +1,5 @@
 use Rattle.std.proofs.Common.{◌≡◌, length}
-use Rattle.just_loader.specs.Reading.{brought_in}
+use Rattle.just_loader.specs.loops.Reading.{brought_in}
 use Rattle.just_loader.proofs.WithPaths.{half}
 use Rattle.just_loader.proofs.reading.bring_in_items.Given as goal
 

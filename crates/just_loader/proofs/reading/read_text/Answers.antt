@@ -1,4 +1,4 @@
-use Rattle.just_loader.specs.Reading.{was_read}
+use Rattle.just_loader.specs.loops.Reading.{was_read}
 use Rattle.just_loader.proofs.BroughtIn.{numbers_kept, read_as}
 use Rattle.just_loader.proofs.reading.read_text.Goals as goal
 

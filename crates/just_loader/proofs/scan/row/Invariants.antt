@@ -1,6 +1,6 @@
 use Rattle.std.proofs.Common.{take}
-use Rattle.just_loader.specs.Numbering.{AreNumbered}
-use Rattle.just_loader.specs.Scanned.{AreSteps, Extends}
+use Rattle.just_loader.specs.loops.Numbering.{AreNumbered}
+use Rattle.just_loader.specs.loops.Scanned.{AreSteps, Extends}
 use Rattle.just_loader.proofs.scan.row.Given as goal
 
 abbrev pub invariant-loop-place : goal.invariant-loop-place

@@ -6,9 +6,9 @@ use Rattle.std.proofs.lemmas.Grind.{common_steps}
 use Rattle.std.proofs.lemmas.List.{length-map, length_push}
 use Rattle.std.proofs.lemmas.Option.{slice_get_read}
 use Rattle.just_table.specs.Entries.{find}
-use Rattle.just_loader.specs.Numbering.{paths_of}
+use Rattle.just_loader.specs.loops.Numbering.{paths_of}
 use Rattle.just_loader.specs.Reached.{World, world_of, BreaksAt, BreaksInScan}
-use Rattle.just_loader.specs.Reading.{AreRead}
+use Rattle.just_loader.specs.loops.Reading.{AreRead}
 use Rattle.just_loader.specs.declared.sources.SourceFile.{SourceFile}
 use Rattle.just_errors.proofs.Lifts.{lifted}
 use Rattle.just_loader.proofs.Numberings.{got, map_get, once}

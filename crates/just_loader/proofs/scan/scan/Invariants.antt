@@ -1,8 +1,8 @@
 use Rattle.std.proofs.Common.{◌≡◌, ◌≤◌, ◌^◌, ◌-◌, IsTrue, length}
 use Rattle.std.specs.Map.{keys_of}
-use Rattle.just_loader.specs.Numbering.{AreFound, AreNumbered, paths_of}
+use Rattle.just_loader.specs.loops.Numbering.{AreFound, AreNumbered, paths_of}
 use Rattle.just_loader.specs.Reached.{world_of}
-use Rattle.just_loader.specs.Reading.{AreRead}
+use Rattle.just_loader.specs.loops.Reading.{AreRead}
 use Rattle.just_loader.proofs.WholeScans.{ScannedSoFar}
 use Rattle.just_loader.proofs.scan.scan.Given as goal
 

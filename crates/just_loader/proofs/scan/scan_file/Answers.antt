@@ -5,9 +5,9 @@ use Rattle.just_parts.specs.Bare.{bare_item}
 use Rattle.just_paths.specs.Clean.{folder_of}
 use Rattle.just_loader.specs.Links.{To, Fault, link_in}
 use Rattle.just_loader.specs.ModuleFile.{relative}
-use Rattle.just_loader.specs.Numbering.{paths_of}
+use Rattle.just_loader.specs.loops.Numbering.{paths_of}
 use Rattle.just_loader.specs.Reached.{World, world_of, FileLeadsTo, BreaksAt, items_said, relative_to_root}
-use Rattle.just_loader.specs.Scanned.{ArePlacesOf, AreSteps}
+use Rattle.just_loader.specs.loops.Scanned.{ArePlacesOf, AreSteps}
 use Rattle.just_errors.proofs.Lifts.{lifted}
 use Rattle.just_loader.proofs.Scanning.{places_count, grows_by}
 use Rattle.just_loader.proofs.Scans.{refused_err, fault_at, leads_to, none_at, is_scanned}

@@ -1,9 +1,10 @@
 use Rattle.std.proofs.Common.{◌≡◌, IfErr, map, rules, subst}
 use Rattle.just_errors.specs.Causes.{Reports}
 use Rattle.just_errors.proofs.Lifts.{lifted}
-use Rattle.just_loader.specs.Links.{Fault, link_in, links_by}
-use Rattle.just_loader.specs.Numbering.{paths_of}
-use Rattle.just_loader.specs.Scanned.{FindsAll, HasFault}
+use Rattle.just_loader.specs.Links.{Fault, link_in}
+use Rattle.just_loader.specs.loops.Links.{links_by}
+use Rattle.just_loader.specs.loops.Numbering.{paths_of}
+use Rattle.just_loader.specs.loops.Scanned.{FindsAll, HasFault}
 use Rattle.just_loader.proofs.Scanning.{fault_among, targets_step}
 use Rattle.just_loader.proofs.scan.targets.Goals as goal
 

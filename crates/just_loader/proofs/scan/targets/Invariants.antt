@@ -1,8 +1,8 @@
 use Rattle.std.proofs.Common.{map, take}
 use Rattle.std.specs.List.{Contains}
 use Rattle.just_loader.specs.Links.{To, link_in}
-use Rattle.just_loader.specs.Numbering.{AreFound, paths_of}
-use Rattle.just_loader.specs.Scanned.{ArePlacesOf, Grows}
+use Rattle.just_loader.specs.loops.Numbering.{AreFound, paths_of}
+use Rattle.just_loader.specs.loops.Scanned.{ArePlacesOf, Grows}
 use Rattle.just_loader.proofs.scan.targets.Given as goal
 
 abbrev pub invariant-loop-item : goal.invariant-loop-item

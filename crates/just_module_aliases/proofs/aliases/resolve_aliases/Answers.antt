@@ -5,7 +5,8 @@ use Rattle.std.proofs.lemmas.Result.{IfErr-weaker}
 use Rattle.just_errors.specs.Causes.{Reports}
 use Rattle.just_errors.proofs.Lifts.{reports_by}
 use Rattle.just_module_contents.specs.Recipes.{lent}
-use Rattle.just_module_aliases.specs.Aliased.{UnknownTarget, UnknownTargets, targets}
+use Rattle.just_module_aliases.specs.Aliased.{UnknownTargets, targets}
+use Rattle.just_module_aliases.specs.loops.Aliased.{UnknownTarget}
 use Rattle.just_module_aliases.proofs.Aliasing.{all_kept, one_more, there, told}
 use Rattle.just_module_aliases.proofs.aliases.resolve_aliases.Goals as goal
 

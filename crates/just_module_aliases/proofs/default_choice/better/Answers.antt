@@ -1,7 +1,7 @@
 use Rattle.std.proofs.Common.{refl, subst, sym, inl, inr}
 use Rattle.just_module_contents.specs.Definitions.{recipes_in}
 use Rattle.just_module_aliases.proofs.Defaults.{itself, read_before}
-use Rattle.just_module_contents.specs.Defaults.{IsBetter}
+use Rattle.just_module_contents.specs.loops.Defaults.{IsBetter}
 use Rattle.just_module_contents.specs.Recipes.{recipe_at}
 use Rattle.just_module_aliases.proofs.default_choice.better.Goals as goal
 

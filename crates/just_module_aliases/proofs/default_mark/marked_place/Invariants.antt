@@ -1,4 +1,4 @@
-use Rattle.just_module_contents.specs.Defaults.{IsMarkedPlace}
+use Rattle.just_module_contents.specs.loops.Defaults.{IsMarkedPlace}
 use Rattle.just_module_contents.specs.Definitions.{recipes_in}
 use Rattle.just_module_aliases.proofs.default_mark.marked_place.Given as goal
 

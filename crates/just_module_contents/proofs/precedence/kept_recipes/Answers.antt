@@ -6,7 +6,8 @@ use Rattle.just_graph.proofs.Index.{map_get, some_at}
 use Rattle.just_recipe.specs.declared.dependency.UnresolvedDependency.{UnresolvedDependency}
 use Rattle.just_recipe.specs.declared.recipe.Recipe.{Recipe}
 use Rattle.just_module_contents.specs.Definitions.{recipes_in}
-use Rattle.just_module_contents.specs.Kept.{claim_of_recipe, stays}
+use Rattle.just_module_contents.specs.Kept.{claim_of_recipe}
+use Rattle.just_module_contents.specs.loops.Kept.{stays}
 use Rattle.just_module_contents.specs.Recipes.{lent}
 use Rattle.just_module_contents.proofs.Keeping.{keeps_all, keeps_more, keeps_same}
 use Rattle.just_module_contents.proofs.RecipePlaces.{length-lent}

@@ -5,7 +5,8 @@ use Rattle.std.proofs.lemmas.Option.{slice_get_read}
 use Rattle.just_graph.proofs.Index.{map_get, some_at}
 use Rattle.just_ast_definitions.specs.declared.assignment.Assignment.{Assignment}
 use Rattle.just_module_contents.specs.Definitions.{variables_in}
-use Rattle.just_module_contents.specs.Kept.{claim_of_variable, stays}
+use Rattle.just_module_contents.specs.Kept.{claim_of_variable}
+use Rattle.just_module_contents.specs.loops.Kept.{stays}
 use Rattle.just_module_contents.specs.Recipes.{lent}
 use Rattle.just_module_contents.proofs.Keeping.{keeps_all, keeps_more, keeps_same}
 use Rattle.just_module_contents.proofs.RecipePlaces.{length-lent}

@@ -6,7 +6,8 @@ use Rattle.just_names.specs.Name.{text_of_name}
 use Rattle.just_ast_definitions.specs.declared.parameter.Parameter.{Parameter}
 use Rattle.just_recipe.specs.declared.dependency.UnresolvedDependency.{UnresolvedDependency}
 use Rattle.just_recipe.specs.declared.recipe.Recipe.{Recipe}
-use Rattle.just_module_contents.specs.Recipes.{FollowsDefault, NoneFollows}
+use Rattle.just_module_contents.specs.Recipes.{FollowsDefault}
+use Rattle.just_module_contents.specs.loops.Recipes.{NoneFollows}
 use Rattle.just_module_contents.specs.Definitions.{recipes_in}
 use Rattle.just_module_contents.proofs.RecipePlaces.{has_needed, length-lent}
 use Rattle.just_module_headers.proofs.headers.check_defaults_at.Goals as goal

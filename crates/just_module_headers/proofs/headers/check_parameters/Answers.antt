@@ -2,7 +2,8 @@ use Rattle.std.proofs.Common.{◌≡◌, ℕ, length, subst, arith, inl, inr}
 use Rattle.std.proofs.lemmas.Bool.{cases_lt}
 use Rattle.just_module_contents.specs.Definitions.{recipes_in}
 use Rattle.just_names.specs.Index.{AreDifferent}
-use Rattle.just_module_contents.specs.Recipes.{NoneFollows, parameter_names, recipe_at}
+use Rattle.just_module_contents.specs.Recipes.{parameter_names, recipe_at}
+use Rattle.just_module_contents.specs.loops.Recipes.{NoneFollows}
 use Rattle.just_module_contents.proofs.RecipePlaces.{length-lent, parameters_kept}
 use Rattle.just_module_headers.proofs.headers.check_parameters.Goals as goal
 

@@ -1,6 +1,7 @@
 use Rattle.std.proofs.Common.{ℕ, ◌<◌}
 use Rattle.just_names.specs.Index.{AreDifferent}
-use Rattle.just_module_contents.specs.Recipes.{NoneFollows, parameter_names, recipe_at}
+use Rattle.just_module_contents.specs.Recipes.{parameter_names, recipe_at}
+use Rattle.just_module_contents.specs.loops.Recipes.{NoneFollows}
 use Rattle.just_module_contents.specs.Definitions.{recipes_in}
 use Rattle.just_module_headers.proofs.headers.check_parameters.Given as goal
 

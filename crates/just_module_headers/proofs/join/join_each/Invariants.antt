@@ -1,6 +1,7 @@
 use Rattle.std.proofs.Common.{length, take}
 use Rattle.std.specs.List.{All}
-use Rattle.just_module_headers.specs.Joined.{AreJoined, IsJoined, StaysJoined}
+use Rattle.just_module_headers.specs.Joined.{AreJoined, IsJoined}
+use Rattle.just_module_headers.specs.loops.Joined.{StaysJoined}
 use Rattle.just_module_headers.proofs.join.join_each.Given as goal
 
 abbrev pub invariant-loop-place : goal.invariant-loop-place

@@ -4,7 +4,8 @@ use Rattle.just_errors.specs.Causes.{Reports}
 use Rattle.just_errors.proofs.Lifts.{reports_by}
 use Rattle.just_names.specs.declared.name.Name.{Name}
 use Rattle.just_module_contents.specs.Contents.{variable_names}
-use Rattle.just_names.specs.Index.{texts_of_names, AreApart, AreDifferent}
+use Rattle.just_names.specs.Index.{texts_of_names, AreDifferent}
+use Rattle.just_names.specs.loops.Index.{AreApart}
 use Rattle.just_module_contents.specs.Definitions.{sets_in, variables_in}
 use Rattle.just_module_contents.specs.Rules.{AssignedTwice, Unexported, BreaksVariables, assigned_twice, unexported}
 use Rattle.just_module_contents.specs.Settings.{allows_variables}

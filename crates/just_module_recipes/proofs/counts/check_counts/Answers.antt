@@ -6,8 +6,9 @@ use Rattle.std.specs.List.{All}
 use Rattle.just_module_contents.proofs.RecipePlaces.{length-lent}
 use Rattle.just_module_contents.specs.Definitions.{recipes_in}
 use Rattle.just_module_contents.specs.Recipes.{recipe_at}
-use Rattle.just_module_recipes.specs.Making.{IsThere}
-use Rattle.just_module_recipes.specs.Rows.{AreTargets, around_by, keys_at, no_set}
+use Rattle.just_module_recipes.specs.loops.Making.{IsThere}
+use Rattle.just_module_recipes.specs.Rows.{keys_at, no_set}
+use Rattle.just_module_recipes.specs.loops.Rows.{AreTargets, around_by}
 use Rattle.just_module_recipes.proofs.Counted.{given_more}
 use Rattle.just_module_recipes.proofs.Finished.{empty_stands}
 use Rattle.just_paths.specs.declared.modulepath.Modulepath.{Modulepath}

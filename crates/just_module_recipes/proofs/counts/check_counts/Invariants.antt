@@ -1,6 +1,6 @@
 use Rattle.just_module_contents.specs.Definitions.{recipes_in}
-use Rattle.just_module_recipes.specs.Making.{AreGivenSets}
-use Rattle.just_module_recipes.specs.Rows.{around_by}
+use Rattle.just_module_recipes.specs.loops.Making.{AreGivenSets}
+use Rattle.just_module_recipes.specs.loops.Rows.{around_by}
 use Rattle.just_module_recipes.proofs.counts.check_counts.Given as goal
 
 abbrev pub invariant-loop-place : goal.invariant-loop-place

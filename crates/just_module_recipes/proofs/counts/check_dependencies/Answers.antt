@@ -4,8 +4,8 @@ use Rattle.std.specs.List.{All}
 use Rattle.just_module_contents.proofs.RecipePlaces.{length-lent}
 use Rattle.just_module_contents.specs.Definitions.{recipes_in}
 use Rattle.just_module_contents.specs.Recipes.{recipe_at}
-use Rattle.just_module_recipes.specs.Making.{IsGiven}
-use Rattle.just_module_recipes.specs.Rows.{IsTargetOf, around_by}
+use Rattle.just_module_recipes.specs.loops.Making.{IsGiven}
+use Rattle.just_module_recipes.specs.loops.Rows.{IsTargetOf, around_by}
 use Rattle.just_module_recipes.proofs.Counted.{given_next}
 use Rattle.just_module_recipes.proofs.Finding.{read_member}
 use Rattle.just_module_recipes.proofs.Zipped.{zip_at, zip_length}

@@ -2,8 +2,8 @@ use Rattle.std.proofs.Common.{take}
 use Rattle.std.specs.List.{All}
 use Rattle.just_module_contents.specs.Definitions.{recipes_in}
 use Rattle.just_module_contents.specs.Recipes.{recipe_at}
-use Rattle.just_module_recipes.specs.Making.{IsGiven}
-use Rattle.just_module_recipes.specs.Rows.{around_by}
+use Rattle.just_module_recipes.specs.loops.Making.{IsGiven}
+use Rattle.just_module_recipes.specs.loops.Rows.{around_by}
 use Rattle.just_module_recipes.proofs.counts.check_dependencies.Given as goal
 
 abbrev pub invariant-loop-at : goal.invariant-loop-at

@@ -4,7 +4,7 @@ use Rattle.just_errors.specs.Causes.{Reports}
 use Rattle.just_module_contents.specs.Definitions.{recipes_in}
 use Rattle.just_module_recipes.specs.Given.{Misgiven}
 use Rattle.just_module_recipes.specs.Links.{BreaksLinks}
-use Rattle.just_module_recipes.specs.Rows.{around_by}
+use Rattle.just_module_recipes.specs.loops.Rows.{around_by}
 use Rattle.just_module_recipes.proofs.Counted.{is_given, misgiven_told}
 use Rattle.just_module_recipes.proofs.counts.check_dependency.Goals as goal
 

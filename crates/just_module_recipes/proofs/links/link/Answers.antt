@@ -8,15 +8,17 @@ use Rattle.just_module_contents.specs.Recipes.{recipe_at}
 use Rattle.just_module_contents.specs.Standing.{AreStanding}
 use Rattle.just_module_recipes.specs.Linked.{disabled_table}
 use Rattle.just_module_recipes.specs.Links.{BreaksLinks, Stands, around}
-use Rattle.just_module_recipes.specs.Making.{fallen, made, standing}
-use Rattle.just_module_recipes.specs.Planned.{IsPlan}
-use Rattle.just_module_recipes.specs.Rows.{IsTargetOf}
+use Rattle.just_module_recipes.specs.Making.{standing}
+use Rattle.just_module_recipes.specs.loops.Making.{fallen, made}
+use Rattle.just_module_recipes.specs.loops.Planned.{IsPlan}
+use Rattle.just_module_recipes.specs.loops.Rows.{IsTargetOf}
 use Rattle.just_module_recipes.specs.declared.targets.Target.{Target}
 use Rattle.just_module_recipes.proofs.Finished.{adds_linked}
 use Rattle.just_module_recipes.proofs.Splits.{disabled_exact, standing_exact}
 use Rattle.just_module_recipes.proofs.Zipped.{zip_length}
 use Rattle.just_paths.specs.declared.modulepath.Modulepath.{Modulepath}
-use Rattle.just_module_recipes.specs.Completed.{BreaksOne, KeepOwn, OfUndisabled, TellsLinks, TellsOne, completed_by, of_links, of_own}
+use Rattle.just_module_recipes.specs.Completed.{BreaksOne, KeepOwn, TellsLinks, TellsOne, completed_by, of_links, of_own}
+use Rattle.just_module_recipes.specs.loops.Completed.{OfUndisabled}
 use Rattle.just_module_recipes.proofs.Completed.{is_completing}
 use Rattle.just_module_recipes.proofs.OwnRules.{own_kept, own_told}
 use Rattle.just_module_recipes.proofs.links.link.Goals as goal

@@ -6,9 +6,9 @@ use Rattle.just_errors.specs.Causes.{Reports}
 use Rattle.just_module_contents.proofs.RecipePlaces.{length-lent}
 use Rattle.just_module_contents.specs.Definitions.{recipes_in}
 use Rattle.just_module_recipes.specs.Links.{BreaksLinks}
-use Rattle.just_module_recipes.specs.Making.{AreAllThere, AreExact, AreGivenSets}
-use Rattle.just_module_recipes.specs.Planned.{IsPlan}
-use Rattle.just_module_recipes.specs.Rows.{Circular, Lost, around_by}
+use Rattle.just_module_recipes.specs.loops.Making.{AreAllThere, AreExact, AreGivenSets}
+use Rattle.just_module_recipes.specs.loops.Planned.{IsPlan}
+use Rattle.just_module_recipes.specs.loops.Rows.{Circular, Lost, around_by}
 use Rattle.just_module_recipes.specs.declared.links.Plan.{Plan}
 use Rattle.just_module_recipes.proofs.Planning.{is_plan}
 use Rattle.just_module_recipes.proofs.Planned.{circle_breaks, links_kept, lost_breaks}

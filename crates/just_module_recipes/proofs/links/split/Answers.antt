@@ -3,7 +3,8 @@ use Rattle.std.proofs.lemmas.List.{nil_from_length}
 use Rattle.std.specs.BTreeSet.{BTreeSet}
 use Rattle.just_module_contents.proofs.RecipePlaces.{length-lent}
 use Rattle.just_module_contents.specs.Definitions.{recipes_in}
-use Rattle.just_module_recipes.specs.Making.{fallen, standing}
+use Rattle.just_module_recipes.specs.Making.{standing}
+use Rattle.just_module_recipes.specs.loops.Making.{fallen}
 use Rattle.just_module_recipes.proofs.Splits.{fallen_step, standing_step}
 use Rattle.just_paths.specs.declared.modulepath.Modulepath.{Modulepath}
 use Rattle.just_module_recipes.proofs.links.split.Goals as goal

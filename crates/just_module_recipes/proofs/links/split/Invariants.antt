@@ -1,6 +1,7 @@
 use Rattle.std.proofs.Common.{◌≡◌, ◌+◌, ◌++◌, drop, length}
 use Rattle.just_module_contents.specs.Definitions.{recipes_in}
-use Rattle.just_module_recipes.specs.Making.{fallen, standing}
+use Rattle.just_module_recipes.specs.Making.{standing}
+use Rattle.just_module_recipes.specs.loops.Making.{fallen}
 use Rattle.just_module_recipes.proofs.links.split.Given as goal
 
 abbrev pub invariant-loop-set : goal.invariant-loop-set

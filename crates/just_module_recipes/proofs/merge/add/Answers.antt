@@ -3,7 +3,7 @@ use Rattle.std.specs.Borrow.{Bor}
 use Rattle.std.specs.Map.Iter.{deref}
 use Rattle.std.proofs.lemmas.List.{map-append}
 use Rattle.std.proofs.lemmas.Map.Iter.{iter_end}
-use Rattle.just_module_recipes.specs.Rows.{SameMembers}
+use Rattle.just_module_recipes.specs.loops.Rows.{SameMembers}
 use Rattle.just_module_recipes.proofs.SameSets.{one_more}
 use Rattle.just_paths.specs.declared.modulepath.Modulepath.{Modulepath}
 use Rattle.just_module_recipes.proofs.merge.add.Goals as goal

@@ -1,6 +1,6 @@
 use Rattle.std.proofs.Common.{map, ◌++◌}
 use Rattle.std.specs.Borrow.{Bor}
-use Rattle.just_module_recipes.specs.Rows.{SameMembers}
+use Rattle.just_module_recipes.specs.loops.Rows.{SameMembers}
 use Rattle.just_paths.specs.declared.modulepath.Modulepath.{Modulepath}
 use Rattle.just_module_recipes.proofs.merge.add.Given as goal
 

@@ -1,5 +1,5 @@
 use Rattle.std.proofs.Common.{◌≡◌, ◌∙◌, ◌++◌, ◌∷◌, [], sym, subst}
-use Rattle.just_module_recipes.specs.Rows.{SameMembers}
+use Rattle.just_module_recipes.specs.loops.Rows.{SameMembers}
 use Rattle.just_module_recipes.proofs.PathKeys.{path_found, path_put}
 use Rattle.just_paths.specs.declared.modulepath.Modulepath.{Modulepath}
 use Rattle.just_module_recipes.proofs.merge.add_path.Goals as goal

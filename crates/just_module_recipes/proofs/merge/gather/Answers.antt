@@ -1,5 +1,5 @@
 use Rattle.std.proofs.Common.{◌<◌, ◌∷◌, [], take, length, sym, subst}
-use Rattle.just_module_recipes.specs.Rows.{SameMembers, gathered}
+use Rattle.just_module_recipes.specs.loops.Rows.{SameMembers, gathered}
 use Rattle.just_module_recipes.proofs.SameSets.{one_more}
 use Rattle.just_module_recipes.proofs.Nearby.{gathered_next, near_one}
 use Rattle.just_module_recipes.proofs.merge.gather.Goals as goal

@@ -1,5 +1,5 @@
 use Rattle.std.proofs.Common.{take}
-use Rattle.just_module_recipes.specs.Rows.{SameMembers, gathered}
+use Rattle.just_module_recipes.specs.loops.Rows.{SameMembers, gathered}
 use Rattle.just_module_recipes.proofs.merge.gather.Given as goal
 
 abbrev pub invariant-loop-target : goal.invariant-loop-target

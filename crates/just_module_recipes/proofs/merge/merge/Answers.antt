@@ -1,6 +1,6 @@
 use Rattle.std.proofs.Common.{◌≡◌, ◌<◌, ◌∙◌, [], length, get_or, sym, subst, ap}
 use Rattle.std.proofs.lemmas.List.{get_or_default, length-set}
-use Rattle.just_module_recipes.specs.Rows.{SameMembers, gathered}
+use Rattle.just_module_recipes.specs.loops.Rows.{SameMembers, gathered}
 use Rattle.just_module_recipes.proofs.Barred.{told_more, near_below}
 use Rattle.just_module_recipes.proofs.merge.merge.Goals as goal
 

@@ -1,5 +1,5 @@
 use Rattle.std.proofs.Common.{◌≡◌, length}
-use Rattle.just_module_recipes.specs.Rows.{AreTold}
+use Rattle.just_module_recipes.specs.loops.Rows.{AreTold}
 use Rattle.just_module_recipes.proofs.merge.merge.Given as goal
 
 abbrev pub invariant-loop-n : goal.invariant-loop-n

@@ -3,7 +3,7 @@ use Rattle.std.proofs.lemmas.List.{get_or_default}
 use Rattle.just_module_contents.specs.Definitions.{recipes_in}
 use Rattle.just_module_contents.specs.Recipes.{recipe_at}
 use Rattle.just_module_recipes.specs.Links.{IsNameOf}
-use Rattle.just_module_recipes.specs.Rows.{IsTargetOf}
+use Rattle.just_module_recipes.specs.loops.Rows.{IsTargetOf}
 use Rattle.just_module_recipes.specs.declared.targets.Target.TheVariants.{Near}
 use Rattle.just_module_recipes.proofs.Finding.{path_there, read_member}
 use Rattle.just_module_recipes.proofs.Zipped.{zip_at, zip_length}

@@ -1,7 +1,7 @@
 use Rattle.std.proofs.Common.{◌≡◌, ◌∙◌, [], get_or, ap}
 use Rattle.std.proofs.lemmas.List.{get_or_default}
 use Rattle.just_graph.specs.Building.{each_row_push}
-use Rattle.just_module_recipes.specs.Rows.{near}
+use Rattle.just_module_recipes.specs.loops.Rows.{near}
 use Rattle.just_module_recipes.proofs.recipe_order.edges_of.Goals as goal
 
 pub loop-place-preserved : goal.loop-place-preserved

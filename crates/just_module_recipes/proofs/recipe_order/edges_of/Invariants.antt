@@ -1,6 +1,6 @@
 use Rattle.std.proofs.Common.{◌≡◌, get_or, []}
 use Rattle.just_graph.specs.Building.{EachRow}
-use Rattle.just_module_recipes.specs.Rows.{near}
+use Rattle.just_module_recipes.specs.loops.Rows.{near}
 use Rattle.just_module_recipes.proofs.recipe_order.edges_of.Given as goal
 
 abbrev pub invariant-loop-place : goal.invariant-loop-place

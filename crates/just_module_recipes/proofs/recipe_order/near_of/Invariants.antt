@@ -1,5 +1,5 @@
 use Rattle.std.proofs.Common.{◌≡◌, take}
-use Rattle.just_module_recipes.specs.Rows.{near}
+use Rattle.just_module_recipes.specs.loops.Rows.{near}
 use Rattle.just_module_recipes.proofs.recipe_order.near_of.Given as goal
 
 abbrev pub invariant-loop-target : goal.invariant-loop-target

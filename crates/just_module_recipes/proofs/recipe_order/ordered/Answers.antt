@@ -10,7 +10,7 @@ use Rattle.just_graph.specs.Steps.{IsCircle, IsOrder, circle_by}
 use Rattle.just_module_contents.proofs.RecipePlaces.{length-lent}
 use Rattle.just_module_contents.specs.Definitions.{recipes_in}
 use Rattle.just_module_contents.specs.Recipes.{Depends, name_of, recipe_at}
-use Rattle.just_module_recipes.specs.Rows.{Circular, circle, near}
+use Rattle.just_module_recipes.specs.loops.Rows.{Circular, circle, near}
 use Rattle.just_module_recipes.specs.declared.targets.Target.TheVariants.{Near}
 use Rattle.just_module_recipes.proofs.Ordering.{circles_kept, is_order_of}
 use Rattle.just_module_recipes.proofs.RecipeCircles.{circle_below, circle_of, closing_dependency, closing_read, closing_row, last_read}

@@ -9,14 +9,15 @@ use Rattle.std.specs.List.{All, Contains}
 use Rattle.just_module_contents.proofs.RecipePlaces.{length-lent}
 use Rattle.just_module_contents.specs.Definitions.{recipes_in}
 use Rattle.just_module_contents.specs.Recipes.{recipe_at}
-use Rattle.just_module_recipes.specs.Making.{IsThere, number_of, settled_of}
+use Rattle.just_module_recipes.specs.loops.Making.{IsThere, number_of, settled_of}
 use Rattle.just_module_recipes.specs.Rows.{keys_at, no_set}
 use Rattle.just_module_recipes.specs.declared.targets.Target.{Target}
 use Rattle.just_module_recipes.proofs.Barred.{told_at}
 use Rattle.just_module_recipes.proofs.Made.{all_there, is_new, numbers_held, so_far}
 use Rattle.just_paths.specs.declared.modulepath.Modulepath.{Modulepath}
 use Rattle.just_recipe.specs.Recipes.{numbers}
-use Rattle.just_module_recipes.specs.Completed.{BreaksOne, OfUndisabled, TellsOne, completed_by, of_one}
+use Rattle.just_module_recipes.specs.Completed.{BreaksOne, TellsOne, completed_by}
+use Rattle.just_module_recipes.specs.loops.Completed.{OfUndisabled, of_one}
 use Rattle.just_module_recipes.proofs.Completed.{is_completing}
 use Rattle.just_module_recipes.proofs.resolution.resolve.Goals as goal
 

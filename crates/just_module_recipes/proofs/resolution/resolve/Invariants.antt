@@ -3,7 +3,7 @@ use Rattle.just_errors.specs.Causes.{Keeps}
 use Rattle.just_module_contents.specs.Definitions.{recipes_in}
 use Rattle.just_module_contents.specs.Recipes.{recipe_at}
 use Rattle.just_module_recipes.specs.Completed.{BreaksOne, completed_by}
-use Rattle.just_module_recipes.specs.Making.{SoFar}
+use Rattle.just_module_recipes.specs.loops.Making.{SoFar}
 use Rattle.just_module_recipes.specs.Rows.{keys_at}
 use Rattle.just_module_recipes.proofs.resolution.resolve.Given as goal
 

@@ -6,7 +6,7 @@ use Rattle.just_module_contents.specs.Definitions.{recipes_in}
 use Rattle.just_module_contents.specs.Recipes.{name_of, no_recipe, recipe_at}
 use Rattle.just_module_contents.specs.Resolved.{path_to}
 use Rattle.just_module_recipes.specs.Completed.{BreaksOne, TellsOne, completed_by, with_needed}
-use Rattle.just_module_recipes.specs.Making.{links_of}
+use Rattle.just_module_recipes.specs.loops.Making.{links_of}
 use Rattle.just_names.specs.Name.{text_of_name}
 use Rattle.just_recipe.specs.Resolved.{resolved}
 use Rattle.just_recipe.specs.declared.dependency.UnresolvedDependency.{UnresolvedDependency}

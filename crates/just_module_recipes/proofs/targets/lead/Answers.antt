@@ -6,7 +6,7 @@ use Rattle.just_recipe.specs.declared.recipe.Recipe.{Recipe}
 use Rattle.just_module_contents.specs.Definitions.{recipes_in}
 use Rattle.just_module_contents.specs.Recipes.{recipe_at}
 use Rattle.just_module_contents.proofs.RecipePlaces.{length-lent}
-use Rattle.just_module_recipes.specs.Rows.{around_by}
+use Rattle.just_module_recipes.specs.loops.Rows.{around_by}
 use Rattle.just_module_recipes.proofs.Finding.{is_lost, is_unknown, read_member, target_at}
 use Rattle.just_module_recipes.proofs.targets.lead.Goals as goal
 

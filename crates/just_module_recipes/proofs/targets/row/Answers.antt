@@ -4,7 +4,7 @@ use Rattle.just_recipe.specs.declared.dependency.UnresolvedDependency.{Unresolve
 use Rattle.just_recipe.specs.declared.recipe.Recipe.{Recipe}
 use Rattle.just_module_contents.specs.Definitions.{recipes_in}
 use Rattle.just_module_contents.specs.Recipes.{recipe_at}
-use Rattle.just_module_recipes.specs.Rows.{IsTargetOf, around_by}
+use Rattle.just_module_recipes.specs.loops.Rows.{IsTargetOf, around_by}
 use Rattle.just_module_recipes.proofs.Finding.{no_dependency, target_of_next}
 use Rattle.just_module_recipes.proofs.Zipped.{zip_more}
 use Rattle.just_module_recipes.proofs.targets.row.Goals as goal

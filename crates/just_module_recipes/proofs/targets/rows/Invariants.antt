@@ -1,5 +1,5 @@
 use Rattle.just_module_contents.specs.Definitions.{recipes_in}
-use Rattle.just_module_recipes.specs.Rows.{AreRecipeRows, around_by}
+use Rattle.just_module_recipes.specs.loops.Rows.{AreRecipeRows, around_by}
 use Rattle.just_module_recipes.proofs.targets.rows.Given as goal
 
 abbrev pub invariant-loop-place : goal.invariant-loop-place

@@ -11,7 +11,7 @@ use Rattle.just_parts.specs.Known.{known, sources}
 use Rattle.just_parts.specs.Layers.{given_by, layers_at}
 use Rattle.just_parts.specs.Needs.{same_number}
 use Rattle.just_parts.specs.Reading.{IsEvaluationOrder}
-use Rattle.just_module_variables.specs.Constants.{TellsFaultIn}
+use Rattle.just_module_variables.specs.loops.Constants.{TellsFaultIn}
 use Rattle.just_module_variables.specs.Overrides.{last_of}
 use Rattle.just_module_variables.proofs.Asking.{tables_ordered}
 use Rattle.just_module_variables.proofs.Coming.{closed, covered, evaluated, kept, no_constants, no_settings, overrides_by_number, setting_told, settings_covered}

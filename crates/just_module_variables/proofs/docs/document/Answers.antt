@@ -8,7 +8,8 @@ use Rattle.just_module_contents.specs.Definitions.{contents_in}
 use Rattle.just_module_contents.specs.declared.labels.Label.{Label}
 use Rattle.just_parts.specs.Evaluator.{values_of}
 use Rattle.just_ast_expressions.specs.declared.expression.Expression.{Expression}
-use Rattle.just_module_variables.specs.Documented.{AreDocumented, DocFault, known_by, value_by}
+use Rattle.just_module_variables.specs.Documented.{AreDocumented}
+use Rattle.just_module_variables.specs.loops.Documented.{DocFault, known_by, value_by}
 use Rattle.just_module_variables.proofs.Documenting.{IsSoundLabel, doc_there, documented_among, documented_more, label_told, label_valued, sound_docs}
 use Rattle.just_module_variables.proofs.Walking.{is_there}
 use Rattle.just_module_variables.proofs.docs.document.Goals as goal

@@ -1,6 +1,7 @@
 use Rattle.std.proofs.Common.{take}
 use Rattle.std.specs.List.{All}
-use Rattle.just_module_variables.specs.Documented.{AreDocumented, known_by, value_by}
+use Rattle.just_module_variables.specs.Documented.{AreDocumented}
+use Rattle.just_module_variables.specs.loops.Documented.{known_by, value_by}
 use Rattle.just_module_variables.proofs.Documenting.{IsSoundLabel}
 use Rattle.just_module_variables.proofs.docs.document.Given as goal
 use Rattle.just_parts.specs.Evaluator.{values_of}

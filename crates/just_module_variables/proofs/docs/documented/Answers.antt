@@ -8,7 +8,7 @@ use Rattle.just_parts.specs.Evaluator.{FaultsAt, values_of}
 use Rattle.just_name_resolution.proofs.Checked.{nothing_hides}
 use Rattle.just_parts.specs.Misnaming.{Misnames}
 use Rattle.just_module_contents.specs.Constants.{text_of_value}
-use Rattle.just_module_variables.specs.Documented.{known_by, value_by}
+use Rattle.just_module_variables.specs.loops.Documented.{known_by, value_by}
 use Rattle.just_module_variables.proofs.Documenting.{doc_had, misnamed_told, names_kept, no_value_told}
 use Rattle.just_module_variables.proofs.docs.documented.Goals as goal
 

@@ -1,6 +1,6 @@
 use Rattle.std.specs.HashSet.{contains}
 use Rattle.std.specs.Str.{bytes_eq}
-use Rattle.just_module_variables.specs.Places.{targets_in}
+use Rattle.just_module_variables.specs.loops.Places.{targets_in}
 use Rattle.just_module_variables.proofs.Rows.{body_row_more}
 use Rattle.just_module_variables.proofs.nodes.add_body_rows.Goals as goal
 

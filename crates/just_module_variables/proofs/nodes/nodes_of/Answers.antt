@@ -2,7 +2,7 @@ use Rattle.std.proofs.Common.{map}
 use Rattle.std.specs.HashMap.{get}
 use Rattle.std.specs.Map.{values_of}
 use Rattle.std.specs.Str.{bytes_eq}
-use Rattle.just_parts.specs.Scopes.{body_scoped, value_scoped}
+use Rattle.just_parts.specs.loops.Scopes.{body_scoped, value_scoped}
 use Rattle.just_module_variables.proofs.Rows.{rows_are}
 use Rattle.just_module_variables.proofs.nodes.nodes_of.Goals as goal
 

@@ -2,8 +2,8 @@ use Rattle.std.proofs.Common.{◌≡◌, ◌++◌, map}
 use Rattle.std.specs.HashSet.{contains}
 use Rattle.std.specs.List.{flat_map}
 use Rattle.std.specs.Str.{bytes_eq}
-use Rattle.just_ast_references.specs.Body.{mention_of}
-use Rattle.just_module_variables.specs.Places.{target_in, targets_in}
+use Rattle.just_ast_references.specs.Mentions.{mention_of}
+use Rattle.just_module_variables.specs.loops.Places.{target_in, targets_in}
 use Rattle.just_parts.specs.Scopes.{scoped}
 use Rattle.just_module_variables.proofs.nodes.row.Given as goal
 

@@ -3,7 +3,7 @@ use Rattle.std.specs.HashSet.{contains}
 use Rattle.std.specs.Str.{bytes_eq}
 use Rattle.just_parts.specs.Known.{hides}
 use Rattle.just_parts.specs.Needs.{has_number, same_number}
-use Rattle.just_name_resolution.specs.Search.{scoped_of}
+use Rattle.just_name_resolution.specs.loops.Search.{scoped_of}
 use Rattle.just_name_resolution.specs.declared.needs.Waiting.{Waiting}
 use Rattle.just_name_resolution.proofs.Collecting.{collected, collected_all}
 use Rattle.just_name_resolution.proofs.Calling.{collected_calls, collected_whole}

@@ -5,7 +5,7 @@ use Rattle.std.specs.Str.{bytes_eq}
 use Rattle.just_ast_definitions.specs.declared.function_definition.FunctionParameter.{FunctionParameter}
 use Rattle.just_parts.specs.Needs.{IsSame}
 use Rattle.just_name_resolution.proofs.Checked.{nothing_hides}
-use Rattle.just_name_resolution.specs.Search.{hidden_by}
+use Rattle.just_name_resolution.specs.loops.Search.{hidden_by}
 use Rattle.just_name_resolution.proofs.needs.hidden_in.Goals as goal
 
 pub returns-in-Some : goal.returns-in-Some

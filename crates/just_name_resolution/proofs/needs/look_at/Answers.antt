@@ -3,7 +3,7 @@ use Rattle.std.specs.HashSet.{contains}
 use Rattle.std.specs.Str.{bytes_eq}
 use Rattle.just_names.specs.Name.{text_of_name}
 use Rattle.just_parts.specs.Needs.{has_number, same_number}
-use Rattle.just_name_resolution.specs.Search.{found_in}
+use Rattle.just_name_resolution.specs.loops.Search.{found_in}
 use Rattle.just_name_resolution.proofs.LookingAt.{asked, reference_called, reference_hidden, reference_named}
 use Rattle.just_name_resolution.proofs.needs.look_at.Goals as goal
 use Rattle.just_name_resolution.specs.Lent.{tables_in}

@@ -2,10 +2,10 @@ use Rattle.std.proofs.Common.{◌∙◌, ap}
 use Rattle.std.specs.HashSet.{contains}
 use Rattle.std.specs.Str.{bytes_eq}
 use Rattle.just_parts.specs.Needs.{has_number, same_number}
-use Rattle.just_name_resolution.specs.Search.{found_in, hidden_by}
+use Rattle.just_name_resolution.specs.loops.Search.{found_in, hidden_by}
 use Rattle.just_name_resolution.proofs.Looking.{looked_all, looked_more, looked_none}
 use Rattle.just_name_resolution.proofs.needs.look_into.Goals as goal
-use Rattle.just_ast_references.specs.Body.{mention_of}
+use Rattle.just_ast_references.specs.Mentions.{mention_of}
 use Rattle.just_name_resolution.specs.Lent.{tables_in}
 use Rattle.just_parts.specs.Reading.{mentions}
 use Rattle.std.specs.Prelude.{map}

@@ -1,7 +1,7 @@
 use Rattle.std.specs.HashSet.{contains}
 use Rattle.std.specs.Str.{bytes_eq}
 use Rattle.just_parts.specs.Needs.{has_number, same_number}
-use Rattle.just_name_resolution.specs.Search.{LooksSoFar, found_in}
+use Rattle.just_name_resolution.specs.loops.Search.{LooksSoFar, found_in}
 use Rattle.just_name_resolution.specs.Lent.{tables_in}
 use Rattle.just_parts.specs.Reading.{mentions}
 use Rattle.just_name_resolution.proofs.needs.look_into.Given as goal

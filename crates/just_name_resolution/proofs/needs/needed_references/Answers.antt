@@ -4,7 +4,7 @@ use Rattle.std.specs.HashSet.{contains}
 use Rattle.std.specs.List.{list_any}
 use Rattle.std.specs.Str.{bytes_eq}
 use Rattle.std.proofs.lemmas.List.{map-append, take_all, take_more}
-use Rattle.just_name_resolution.specs.Search.{scoped_of}
+use Rattle.just_name_resolution.specs.loops.Search.{scoped_of}
 use Rattle.just_name_resolution.proofs.LookingAt.{pushed}
 use Rattle.just_name_resolution.proofs.Starts.{found_by, scoped_all}
 use Rattle.just_name_resolution.proofs.needs.needed_references.Goals as goal

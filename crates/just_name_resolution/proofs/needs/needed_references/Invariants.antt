@@ -1,5 +1,5 @@
 use Rattle.std.proofs.Common.{◌≡◌, map, take}
-use Rattle.just_name_resolution.specs.Search.{scoped_of}
+use Rattle.just_name_resolution.specs.loops.Search.{scoped_of}
 use Rattle.just_name_resolution.proofs.needs.needed_references.Given as goal
 use Rattle.just_parts.specs.Known.{none_hidden}
 use Rattle.just_parts.specs.Scopes.{scoped}

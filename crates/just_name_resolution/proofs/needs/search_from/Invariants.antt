@@ -2,7 +2,7 @@ use Rattle.std.proofs.Common.{◌+◌, length, map}
 use Rattle.std.specs.HashSet.{contains}
 use Rattle.std.specs.Str.{bytes_eq}
 use Rattle.just_parts.specs.Needs.{has_number, same_number}
-use Rattle.just_name_resolution.specs.Search.{Searches, found_in, scoped_of, unfound}
+use Rattle.just_name_resolution.specs.loops.Search.{Searches, found_in, scoped_of, unfound}
 use Rattle.just_name_resolution.specs.Lent.{tables_in}
 use Rattle.just_name_resolution.proofs.needs.search_from.Given as goal
 

@@ -3,7 +3,7 @@ use Rattle.std.proofs.lemmas.Result.{IfOk-from_err}
 use Rattle.just_ast_expressions.specs.declared.expression.Expression.{Expression}
 use Rattle.just_ast_references.specs.Parts.{waiting}
 use Rattle.just_ast_references.proofs.Stack.{walk_ends}
-use Rattle.just_name_resolution.specs.Nodes.{LeadsBack}
+use Rattle.just_name_resolution.specs.loops.Nodes.{LeadsBack}
 use Rattle.just_name_resolution.proofs.Nodes.{leads_on}
 use Rattle.just_name_resolution.proofs.numbers.nodes.Goals as goal
 

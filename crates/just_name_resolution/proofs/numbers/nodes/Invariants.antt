@@ -1,5 +1,5 @@
 use Rattle.std.specs.List.{sum_by}
-use Rattle.just_name_resolution.specs.Nodes.{LeadsBack}
+use Rattle.just_name_resolution.specs.loops.Nodes.{LeadsBack}
 use Rattle.just_ast_references.specs.Parts.{waiting}
 use Rattle.just_ast_expressions.proofs.Sizes.{size}
 use Rattle.just_name_resolution.proofs.numbers.nodes.Given as goal

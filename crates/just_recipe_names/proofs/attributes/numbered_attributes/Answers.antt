@@ -1,5 +1,6 @@
 use Rattle.std.proofs.Common.{map}
-use Rattle.just_recipe_names.specs.Numbered.{looked_up, attribute_with}
+use Rattle.just_recipe_names.specs.Numbered.{attribute_with}
+use Rattle.just_recipe_names.specs.loops.Numbered.{looked_up}
 use Rattle.just_recipe_names.proofs.Seen.{one_made}
 use Rattle.just_recipe_names.proofs.attributes.numbered_attributes.Goals as goal
 

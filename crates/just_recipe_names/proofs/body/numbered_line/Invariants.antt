@@ -1,5 +1,6 @@
 use Rattle.std.proofs.Common.{◌≡◌, ◌++◌, drop, map}
-use Rattle.just_recipe_names.specs.Numbered.{fragment_by, looked_up}
+use Rattle.just_recipe_names.specs.Numbered.{fragment_by}
+use Rattle.just_recipe_names.specs.loops.Numbered.{looked_up}
 use Rattle.just_recipe_names.proofs.body.numbered_line.Given as goal
 
 abbrev pub invariant-loop-fragment : goal.invariant-loop-fragment

@@ -1,5 +1,6 @@
 use Rattle.std.proofs.Common.{◌≡◌, ◌++◌, drop, map}
-use Rattle.just_recipe_names.specs.Numbered.{line_by, looked_up}
+use Rattle.just_recipe_names.specs.Numbered.{line_by}
+use Rattle.just_recipe_names.specs.loops.Numbered.{looked_up}
 use Rattle.just_recipe_names.proofs.body.numbered_lines.Given as goal
 
 abbrev pub invariant-loop-line : goal.invariant-loop-line

@@ -1,5 +1,6 @@
 use Rattle.std.proofs.Common.{◌≡◌, ◌++◌, drop, true}
-use Rattle.just_recipe_names.specs.Numbered.{looked_up, shell_lines_by}
+use Rattle.just_recipe_names.specs.Numbered.{shell_lines_by}
+use Rattle.just_recipe_names.specs.loops.Numbered.{looked_up}
 use Rattle.just_recipe_names.proofs.body.numbered_shell_lines.Given as goal
 
 abbrev pub invariant-loop-line : goal.invariant-loop-line

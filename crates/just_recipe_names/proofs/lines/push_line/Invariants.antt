@@ -1,7 +1,8 @@
 use Rattle.std.proofs.Common.{◌≡◌, ◌++◌, drop}
 use Rattle.std.specs.List.{flat_map}
 use Rattle.just_parts.specs.Scopes.{fragment_expressions, line_expressions}
-use Rattle.just_recipe_names.specs.Steps.{events, readings}
+use Rattle.just_recipe_names.specs.Steps.{events}
+use Rattle.just_recipe_names.specs.loops.Steps.{readings}
 use Rattle.just_recipe_names.proofs.lines.push_line.Given as goal
 
 abbrev pub invariant-loop-fragment : goal.invariant-loop-fragment

@@ -1,7 +1,8 @@
 use Rattle.std.proofs.Common.{◌≡◌, ◌++◌, drop}
 use Rattle.std.specs.List.{flat_map}
 use Rattle.just_parts.specs.Scopes.{line_expressions}
-use Rattle.just_recipe_names.specs.Steps.{events, readings}
+use Rattle.just_recipe_names.specs.Steps.{events}
+use Rattle.just_recipe_names.specs.loops.Steps.{readings}
 use Rattle.just_recipe_names.proofs.lines.push_lines.Given as goal
 
 abbrev pub invariant-loop-line : goal.invariant-loop-line

@@ -1,5 +1,6 @@
 use Rattle.std.proofs.Common.{◌≡◌, ◌++◌, drop, map}
-use Rattle.just_recipe_names.specs.Numbered.{dependency_by, looked_up}
+use Rattle.just_recipe_names.specs.Numbered.{dependency_by}
+use Rattle.just_recipe_names.specs.loops.Numbered.{looked_up}
 use Rattle.just_recipe_names.proofs.numbers.numbered_dependencies.Given as goal
 
 abbrev pub invariant-loop-dependency : goal.invariant-loop-dependency

@@ -1,5 +1,6 @@
 use Rattle.std.proofs.Common.{◌≡◌, ◌++◌, drop, map}
-use Rattle.just_recipe_names.specs.Numbered.{given_by, looked_up}
+use Rattle.just_recipe_names.specs.Numbered.{given_by}
+use Rattle.just_recipe_names.specs.loops.Numbered.{looked_up}
 use Rattle.just_recipe_names.proofs.numbers.numbered_dependency.Given as goal
 
 abbrev pub invariant-loop-argument : goal.invariant-loop-argument

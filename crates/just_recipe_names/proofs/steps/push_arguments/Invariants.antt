@@ -1,6 +1,7 @@
 use Rattle.std.proofs.Common.{◌≡◌, ◌++◌, drop, map}
 use Rattle.just_recipe.specs.declared.dependency.DependencyArgument.{DependencyArgument}
-use Rattle.just_recipe_names.specs.Steps.{events, readings}
+use Rattle.just_recipe_names.specs.Steps.{events}
+use Rattle.just_recipe_names.specs.loops.Steps.{readings}
 use Rattle.just_recipe_names.proofs.steps.push_arguments.Given as goal
 
 abbrev pub invariant-loop-argument : goal.invariant-loop-argument

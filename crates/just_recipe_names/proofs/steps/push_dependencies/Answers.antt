@@ -3,7 +3,8 @@ use Rattle.std.specs.List.{flat_map}
 use Rattle.just_ast_expressions.specs.declared.expression.Expression.{Expression}
 use Rattle.just_recipe.specs.declared.dependency.DependencyArgument.{DependencyArgument}
 use Rattle.just_recipe.specs.declared.dependency.UnresolvedDependency.{UnresolvedDependency}
-use Rattle.just_recipe_names.specs.Steps.{events, readings}
+use Rattle.just_recipe_names.specs.Steps.{events}
+use Rattle.just_recipe_names.specs.loops.Steps.{readings}
 use Rattle.just_recipe_names.proofs.Walking.{one_read}
 use Rattle.just_recipe_names.proofs.steps.push_dependencies.Goals as goal
 

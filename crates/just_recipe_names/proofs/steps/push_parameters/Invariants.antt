@@ -1,6 +1,7 @@
 use Rattle.std.proofs.Common.{◌≡◌, ◌++◌, drop}
 use Rattle.just_parts.specs.Scopes.{parameter_expressions}
-use Rattle.just_recipe_names.specs.Steps.{events, parameter_events}
+use Rattle.just_recipe_names.specs.Steps.{events}
+use Rattle.just_recipe_names.specs.loops.Steps.{parameter_events}
 use Rattle.just_recipe_names.proofs.steps.push_parameters.Given as goal
 
 abbrev pub invariant-loop-parameter : goal.invariant-loop-parameter

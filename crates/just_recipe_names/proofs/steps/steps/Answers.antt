@@ -6,7 +6,8 @@ use Rattle.just_ast_expressions.specs.declared.expression.Expression.{Expression
 use Rattle.just_parts.specs.Scopes.{attribute_expressions, compiled_expressions, environment_expressions, line_expressions, lines_read, of_attributes, parameter_expressions}
 use Rattle.just_recipe.specs.declared.dependency.DependencyArgument.{DependencyArgument}
 use Rattle.just_recipe.specs.declared.dependency.UnresolvedDependency.{UnresolvedDependency}
-use Rattle.just_recipe_names.specs.Steps.{events, parameter_events, readings}
+use Rattle.just_recipe_names.specs.Steps.{events}
+use Rattle.just_recipe_names.specs.loops.Steps.{parameter_events, readings}
 use Rattle.just_recipe_names.proofs.Walking.{walked}
 use Rattle.just_recipe_names.proofs.steps.steps.Goals as goal
 

@@ -2,11 +2,11 @@ use Rattle.std.proofs.Common.{◌∷◌, [], OnOk, subst, sym}
 use Rattle.std.specs.HashSet.{contains}
 use Rattle.std.specs.Str.{bytes_eq}
 use Rattle.std.proofs.lemmas.Result.{on_ok_weaker}
-use Rattle.just_ast_references.specs.Body.{Calls, mention_of}
+use Rattle.just_ast_references.specs.Mentions.{Calls, mention_of}
 use Rattle.just_ast_references.specs.declared.references.Reference.{Reference}
 use Rattle.just_name_resolution.specs.Lent.{tables_in}
 use Rattle.just_names.specs.Name.{text_of_name}
-use Rattle.just_recipe_needs.specs.Direct.{Notes, NotesCall}
+use Rattle.just_recipe_needs.specs.loops.Direct.{Notes, NotesCall}
 use Rattle.just_recipe_needs.proofs.direct.note.Goals as goal
 
 pub returns-in-Call : goal.returns-in-Call

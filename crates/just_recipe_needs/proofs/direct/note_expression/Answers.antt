@@ -1,7 +1,7 @@
 use Rattle.std.proofs.Common.{◌∙◌, ap, map}
 use Rattle.std.specs.HashSet.{contains}
 use Rattle.std.specs.Str.{bytes_eq}
-use Rattle.just_ast_references.specs.Body.{mention_of}
+use Rattle.just_ast_references.specs.Mentions.{mention_of}
 use Rattle.just_name_resolution.specs.Lent.{tables_in}
 use Rattle.just_parts.specs.Reading.{mentions}
 use Rattle.just_recipe_needs.proofs.Noting.{noted_all, noted_more, noted_none}

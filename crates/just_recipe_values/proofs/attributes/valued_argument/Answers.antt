@@ -5,7 +5,7 @@ use Rattle.std.proofs.lemmas.Result.{IfErr-weaker}
 use Rattle.just_errors.specs.Causes.{Reports}
 use Rattle.just_parts.specs.Scopes.{property_expressions}
 use Rattle.just_recipe_values.specs.Among.{value_of}
-use Rattle.just_recipe_values.specs.Judged.{Faults}
+use Rattle.just_recipe_values.specs.loops.Judged.{Faults}
 use Rattle.just_recipe_values.proofs.Judging.{sound_both, told_left, told_right}
 use Rattle.just_recipe_values.proofs.attributes.valued_argument.Goals as goal
 

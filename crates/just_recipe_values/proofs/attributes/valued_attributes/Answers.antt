@@ -5,7 +5,7 @@ use Rattle.just_errors.specs.Causes.{Reports}
 use Rattle.just_module_contents.specs.RecipeValues.{patterns_in}
 use Rattle.just_parts.specs.Scopes.{compiled_expressions}
 use Rattle.just_recipe_values.specs.Among.{value_of}
-use Rattle.just_recipe_values.specs.Judged.{Faults}
+use Rattle.just_recipe_values.specs.loops.Judged.{Faults}
 use Rattle.just_recipe_values.specs.Valued.{last_doc, valued_named}
 use Rattle.just_recipe_values.proofs.Judging.{less_left, none_left, there_next, told_next}
 use Rattle.just_recipe_values.proofs.Saying.{all_made, doc_all, doc_next, one_made, under, valued_under}

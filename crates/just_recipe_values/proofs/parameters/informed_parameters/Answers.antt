@@ -2,7 +2,7 @@ use Rattle.std.proofs.Common.{rules, ◌≡◌, ◌∙◌, [], length, map}
 use Rattle.std.proofs.lemmas.List.{nil_from_length}
 use Rattle.std.specs.HashMap.{get}
 use Rattle.std.specs.Str.{bytes_eq}
-use Rattle.just_recipe_values.specs.Judged.{informed_by}
+use Rattle.just_recipe_values.specs.loops.Judged.{informed_by}
 use Rattle.just_recipe_values.proofs.Saying.{all_made, informed_said}
 use Rattle.just_recipe_values.proofs.parameters.informed_parameters.Goals as goal
 

@@ -1,7 +1,7 @@
 use Rattle.std.proofs.Common.{◌≡◌, ◌++◌, map}
 use Rattle.std.specs.HashMap.{get}
 use Rattle.std.specs.Str.{bytes_eq}
-use Rattle.just_recipe_values.specs.Judged.{informed_by}
+use Rattle.just_recipe_values.specs.loops.Judged.{informed_by}
 use Rattle.just_recipe_values.proofs.parameters.informed_parameters.Given as goal
 
 abbrev pub invariant-loop-parameter : goal.invariant-loop-parameter

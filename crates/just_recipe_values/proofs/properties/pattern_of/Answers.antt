@@ -3,7 +3,7 @@ use Rattle.std.proofs.lemmas.Result.{IfErr-weaker}
 use Rattle.just_errors.specs.Causes.{Reports}
 use Rattle.just_patterns.specs.Pattern.{RefusesPattern}
 use Rattle.just_recipe_values.specs.Among.{value_of}
-use Rattle.just_recipe_values.specs.Judged.{Faults}
+use Rattle.just_recipe_values.specs.loops.Judged.{Faults}
 use Rattle.just_recipe_values.proofs.Judging.{refused_told, text_told}
 use Rattle.just_recipe_values.proofs.properties.pattern_of.Goals as goal
 

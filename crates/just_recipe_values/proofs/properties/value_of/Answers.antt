@@ -3,7 +3,7 @@ use Rattle.std.proofs.lemmas.Result.{IfErr-weaker}
 use Rattle.just_errors.specs.Causes.{Reports}
 use Rattle.just_parts.specs.Evaluator.{FaultsAt}
 use Rattle.just_recipe_values.specs.Among.{value_of}
-use Rattle.just_recipe_values.specs.Judged.{Faults}
+use Rattle.just_recipe_values.specs.loops.Judged.{Faults}
 use Rattle.just_recipe_values.proofs.Judging.{value_told}
 use Rattle.just_recipe_values.proofs.properties.value_of.Goals as goal
 

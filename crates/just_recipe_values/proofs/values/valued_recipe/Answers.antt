@@ -4,7 +4,7 @@ use Rattle.just_errors.specs.Causes.{Reports}
 use Rattle.just_module_contents.specs.Constants.{recipe_expressions}
 use Rattle.just_module_contents.specs.RecipeValues.{patterns_of}
 use Rattle.just_recipe_values.specs.Among.{value_of}
-use Rattle.just_recipe_values.specs.Judged.{Faults}
+use Rattle.just_recipe_values.specs.loops.Judged.{Faults}
 use Rattle.just_recipe_values.proofs.Judging.{faults_told, values_kept}
 use Rattle.just_recipe_values.proofs.values.valued_recipe.Goals as goal
 

@@ -1,6 +1,6 @@
 use Rattle.std.proofs.Common.{◌≡◌, ◌++◌, drop}
 use Rattle.just_justfile.specs.declared.justfile.Justfile.{out-Justfile}
-use Rattle.just_scopes.specs.Preorder.{inner_modules, waiting}
+use Rattle.just_scopes.specs.loops.Preorder.{inner_modules, waiting}
 use Rattle.just_scopes.proofs.modules.add_modules.Given as goal
 
 abbrev pub invariant-loop-inner : goal.invariant-loop-inner

@@ -1,7 +1,7 @@
 use Rattle.std.proofs.Common.{◌≡◌, ◌++◌, [], ◌∷◌, map, length, rules, ◌∙◌, ap, sym}
 use Rattle.std.proofs.lemmas.List.{length-map, map-append}
 use Rattle.just_justfile.specs.declared.justfile.Justfile.{out-Justfile}
-use Rattle.just_scopes.specs.Preorder.{inner_modules, placed, waiting}
+use Rattle.just_scopes.specs.loops.Preorder.{inner_modules, placed, waiting}
 use Rattle.just_scopes.proofs.Preordering.{begins, walks_on, ends, fewer}
 use Rattle.just_scopes.proofs.modules.modules_in.Goals as goal
 

@@ -1,5 +1,5 @@
 use Rattle.std.proofs.Common.{map}
-use Rattle.just_scopes.specs.Preorder.{placed}
+use Rattle.just_scopes.specs.loops.Preorder.{placed}
 use Rattle.just_scopes.proofs.Preordering.{Walks, count_all}
 use Rattle.just_scopes.proofs.modules.modules_in.Given as goal
 

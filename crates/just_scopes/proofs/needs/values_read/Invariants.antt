@@ -1,5 +1,5 @@
 use Rattle.std.proofs.Common.{◌≡◌, map, take}
-use Rattle.just_scopes.specs.Wanting.{free_values}
+use Rattle.just_scopes.specs.loops.Wanting.{free_values}
 use Rattle.just_scopes.proofs.needs.values_read.Given as goal
 
 abbrev pub invariant-loop-place : goal.invariant-loop-place

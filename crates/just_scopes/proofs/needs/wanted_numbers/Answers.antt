@@ -6,7 +6,7 @@ use Rattle.just_justfile.specs.Running.{known_by_tables}
 use Rattle.just_justfile.specs.declared.justfile.Justfile.{out-Justfile}
 use Rattle.just_names.specs.declared.number.Number.{Number}
 use Rattle.just_parts.specs.Needs.{AreNeededBy, has_number, same_number}
-use Rattle.just_scopes.specs.Wanting.{free_values}
+use Rattle.just_scopes.specs.loops.Wanting.{free_values}
 use Rattle.just_scopes.proofs.Wanting.{all-found}
 use Rattle.just_scopes.proofs.needs.wanted_numbers.Goals as goal
 

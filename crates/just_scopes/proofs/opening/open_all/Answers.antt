@@ -8,7 +8,7 @@ use Rattle.just_parts.specs.Needs.{same_number}
 use Rattle.just_run_layers.proofs.InteractionLemmas.{keeps-both, keeps-then, took-give, took-out}
 use Rattle.just_run_layers.specs.Interactions.{HasTrace, both, log_of}
 use Rattle.just_scopes.specs.Opening.{all_opened, around, handed_of, open_steps, opened_in, opened_of, openings}
-use Rattle.just_scopes.specs.Preorder.{placed}
+use Rattle.just_scopes.specs.loops.Preorder.{placed}
 use Rattle.just_scopes.proofs.Turning.{IsOpening, at-end, at-place, is-listed, past-place, stops, turns}
 use Rattle.just_scopes.proofs.opening.open_all.Goals as goal
 

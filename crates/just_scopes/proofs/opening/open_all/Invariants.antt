@@ -4,7 +4,7 @@ use Rattle.just_parts.specs.Needs.{same_number}
 use Rattle.just_run_layers.specs.Host.{KeepsPromises, executed}
 use Rattle.just_run_layers.specs.Interactions.{both, log_of}
 use Rattle.just_scopes.specs.Opening.{handed_of, opened_of}
-use Rattle.just_scopes.specs.Preorder.{placed}
+use Rattle.just_scopes.specs.loops.Preorder.{placed}
 use Rattle.just_scopes.proofs.Turning.{IsOpening}
 use Rattle.just_scopes.proofs.opening.open_all.Given as goal
 

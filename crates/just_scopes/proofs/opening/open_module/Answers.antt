@@ -5,9 +5,10 @@ use Rattle.just_parts.specs.Needs.{IsClosed, has_number, same_number}
 use Rattle.just_justfile.specs.Running.{known_by_tables}
 use Rattle.just_run_layers.specs.Evaluation.{config_contents, in_set, set_of}
 use Rattle.just_run_layers.specs.Interactions.{HasTrace, both, log_of}
-use Rattle.just_scopes.specs.Opening.{handed_of, open_steps, opened_as}
-use Rattle.just_scopes.specs.Opens.{IsSetFor, around_as, set_in}
-use Rattle.just_scopes.specs.Preorder.{placed}
+use Rattle.just_scopes.specs.Opening.{handed_of, open_steps}
+use Rattle.just_scopes.specs.loops.Opening.{opened_as}
+use Rattle.just_scopes.specs.loops.Opens.{IsSetFor, around_as, set_in}
+use Rattle.just_scopes.specs.loops.Preorder.{placed}
 use Rattle.just_scopes.proofs.Keeping.{dotenv-executes}
 use Rattle.just_scopes.proofs.OneOpened.{opens, stops-first, stops-last, stops-out}
 use Rattle.just_scopes.proofs.Turning.{set-asked, set-closed}

@@ -6,7 +6,7 @@ use Rattle.just_parts.specs.Needs.{same_number}
 use Rattle.just_run_layers.specs.Interactions.{HasTrace, both, log_of}
 use Rattle.just_scopes.specs.Opening.{all_opened, handed_of, opened_in, opened_of}
 use Rattle.just_scopes.specs.Open.{whose_placed}
-use Rattle.just_scopes.specs.Preorder.{placed}
+use Rattle.just_scopes.specs.loops.Preorder.{placed}
 use Rattle.just_scopes.proofs.Facts.{are-open, can-open, if-both}
 use Rattle.just_scopes.proofs.Needed.{sets-found}
 use Rattle.just_scopes.proofs.Standing.{one-order, placed-stand}

@@ -2,7 +2,7 @@ use Rattle.std.proofs.Common.{◌≡◌, false, true, None, Some, sym, subst, ru
 use Rattle.std.specs.HashSet.{contains}
 use Rattle.just_parts.specs.Needs.{same_number}
 use Rattle.just_scopes.specs.Need.{IsFound}
-use Rattle.just_scopes.specs.Opens.{IsSetFor, all, some}
+use Rattle.just_scopes.specs.loops.Opens.{IsSetFor, all, some}
 use Rattle.just_scopes.proofs.opening.set_for.Goals as goal
 
 pub returns-then-not-module : goal.returns-then-not-module

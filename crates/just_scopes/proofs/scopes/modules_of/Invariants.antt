@@ -1,6 +1,6 @@
 use Rattle.std.proofs.Common.{map}
 use Rattle.just_scopes.specs.Opening.{handed_of, opened_of}
-use Rattle.just_scopes.specs.Scoped.{AreModulesOf}
+use Rattle.just_scopes.specs.loops.Scoped.{AreModulesOf}
 use Rattle.just_scopes.proofs.scopes.modules_of.Given as goal
 
 abbrev pub invariant-loop-module : goal.invariant-loop-module

@@ -6,7 +6,8 @@ use Rattle.just_run_layers.specs.Host.{Answer}
 use Rattle.just_run_layers.specs.Interactions.{Return, Question, both, log_of}
 use Rattle.just_run_layers.proofs.InteractionLemmas.{keeps-then, keeps-self, keeps-both, took-then, took-give}
 use Rattle.just_recipe_body.specs.Body.{BodyContents, contents_of, line_steps}
-use Rattle.just_shell_body.specs.Lines.{TextBeginsGroup, trimmed}
+use Rattle.just_shell_body.specs.Lines.{trimmed}
+use Rattle.just_shell_body.specs.loops.Lines.{TextBeginsGroup}
 use Rattle.just_recipe_body.proofs.StepEnds.{took-exit, took-gone}
 use Rattle.just_shell_body.proofs.TextLemmas.{begins-on, part-begins, one-line, no-lines}
 use Rattle.just_shell_body.proofs.lines.ask_text.Goals as goal

@@ -6,7 +6,8 @@ use Rattle.just_run_layers.specs.declared.host.Entry.{Entry}
 use Rattle.just_run_layers.specs.Host.{Answer, KeepsPromises}
 use Rattle.just_run_layers.specs.Interactions.{Log, HasTrace, both, log_of}
 use Rattle.just_recipe_body.specs.Body.{contents_of}
-use Rattle.just_shell_body.specs.Lines.{TextBeginsGroup, lines_text_steps}
+use Rattle.just_shell_body.specs.Lines.{lines_text_steps}
+use Rattle.just_shell_body.specs.loops.Lines.{TextBeginsGroup}
 use Rattle.just_shell_body.proofs.lines.ask_text.Given as goal
 
 abbrev pub invariant-loop-line : goal.invariant-loop-line

@@ -2,7 +2,7 @@ use Rattle.std.proofs.Common.{rules, ◌≡◌, ◌∙◌, sym, ap, Some, None, 
 use Rattle.just_names.specs.Texts.{texts}
 use Rattle.just_tail.specs.Words.{as_texts}
 use Rattle.just_tail.specs.Options.{first_of}
-use Rattle.just_tail.specs.Reader.{switch_of}
+use Rattle.just_tail.specs.loops.Reader.{switch_of}
 use Rattle.just_tail.specs.Checks.{missing_switch, first_missing}
 use Rattle.just_tail.proofs.CheckLemmas.{both_at}
 use Rattle.just_tail.proofs.checks.first_missing.Goals as goal

@@ -1,8 +1,8 @@
 use Rattle.std.proofs.Common.{rules, [], refl, sym, ap, subst}
-use Rattle.just_tail.specs.Words.{value_text}
+use Rattle.just_tail.specs.loops.Words.{value_text}
 use Rattle.just_tail.specs.Pieces.{nothing, equals, next}
 use Rattle.just_tail.specs.Steps.{asks, FitsNeed}
-use Rattle.just_tail.specs.Reader.{switch_of}
+use Rattle.just_tail.specs.loops.Reader.{switch_of}
 use Rattle.just_tail.proofs.OptionLemmas.{used}
 use Rattle.just_tail.proofs.options.apply.Goals as goal
 

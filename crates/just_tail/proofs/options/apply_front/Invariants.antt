@@ -2,7 +2,7 @@ use Rattle.std.proofs.Common.{◌≡◌, ◌++◌, length, take, vec_len}
 use Rattle.just_tail.specs.Pieces.{letters}
 use Rattle.just_tail.specs.Steps.{StepsFollow}
 use Rattle.just_tail.specs.Tail.{given_nothing}
-use Rattle.just_tail.specs.Reader.{HasRead, HoldsOpen}
+use Rattle.just_tail.specs.loops.Reader.{HasRead, HoldsOpen}
 use Rattle.just_tail.proofs.options.apply_front.Given as goal
 
 abbrev pub invariant-loop-letter : goal.invariant-loop-letter

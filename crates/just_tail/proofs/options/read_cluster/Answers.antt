@@ -1,6 +1,6 @@
 use Rattle.std.proofs.Common.{◌≡◌, ◌++◌, ◌∷◌, [], sym, ◌∙◌}
 use Rattle.std.specs.Str.{chars}
-use Rattle.just_tail.specs.Words.{value_text}
+use Rattle.just_tail.specs.loops.Words.{value_text}
 use Rattle.just_tail.proofs.WordLemmas.{some_chars, no_length}
 use Rattle.just_tail.proofs.OptionLemmas.{cluster_read}
 use Rattle.just_tail.proofs.options.read_cluster.Goals as goal

@@ -2,7 +2,7 @@ use Rattle.std.proofs.Common.{rules, ◌≢◌, inl, [], length, sym, ap, ◌∙
 use Rattle.std.proofs.lemmas.Bool.{eqb-true}
 use Rattle.std.proofs.lemmas.Option.{IfSome_then}
 use Rattle.just_names.specs.Texts.{texts}
-use Rattle.just_tail.specs.Words.{value_text}
+use Rattle.just_tail.specs.loops.Words.{value_text}
 use Rattle.just_tail.specs.Pieces.{long, cluster, option_word}
 use Rattle.just_tail.specs.Cause.{tail_cause_of}
 use Rattle.just_tail.proofs.WordLemmas.{no_length, dashed_begins, long_word, short_word, nameless_long, nameless_short, no_dash}

@@ -8,7 +8,7 @@ use Rattle.just_tail.specs.Pieces.{words_of}
 use Rattle.just_tail.specs.Steps.{steps_of_piece, StepsFollow, Ends}
 use Rattle.just_tail.specs.Cause.{tail_cause_of}
 use Rattle.just_tail.specs.Tail.{BadOption}
-use Rattle.just_tail.specs.Reader.{HasRead}
+use Rattle.just_tail.specs.loops.Reader.{HasRead}
 use Rattle.just_tail.proofs.TailLemmas.{pieces_push, flat_push, words_push, texts_add, texts_cut, ends_at_end, tail_read, tail_alike}
 use Rattle.just_tail.proofs.tail.read_tail.Goals as goal
 use Rattle.just_tail.proofs.tail.read_tail.Goals.{else-loop-taken-test, then-loop-taken-test+in-Ok-eq0}

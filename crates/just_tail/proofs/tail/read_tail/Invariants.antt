@@ -3,7 +3,7 @@ use Rattle.std.specs.List.{flat_map}
 use Rattle.just_names.specs.Texts.{texts}
 use Rattle.just_tail.specs.Pieces.{Piece, words_of}
 use Rattle.just_tail.specs.Steps.{steps_of_piece, PiecesFollow}
-use Rattle.just_tail.specs.Reader.{HasRead}
+use Rattle.just_tail.specs.loops.Reader.{HasRead}
 use Rattle.just_tail.proofs.tail.read_tail.Given as goal
 
 abbrev pub invariant-loop-taken : goal.invariant-loop-taken

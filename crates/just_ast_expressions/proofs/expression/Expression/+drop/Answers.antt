@@ -1,7 +1,7 @@
 use Rattle.std.proofs.Common.{◌∙◌, ap, arith}
 use Rattle.std.specs.List.{sum_by}
 use Rattle.std.proofs.lemmas.List.Sums.{sum_by_push}
-use Rattle.just_ast_expressions.specs.Taken.{untaken}
+use Rattle.just_ast_expressions.specs.loops.Taken.{untaken}
 use Rattle.just_ast_expressions.proofs.Sizes.{size, size_is, sizes_count, parts_smaller}
 use Rattle.just_ast_expressions.proofs.expression.Expression.+drop.Goals as goal
 

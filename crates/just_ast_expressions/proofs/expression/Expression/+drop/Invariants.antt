@@ -1,6 +1,6 @@
 use Rattle.std.proofs.Common.{◌+◌, ◌-◌, ◌<◌, length}
 use Rattle.std.specs.List.{sum_by}
-use Rattle.just_ast_expressions.specs.Taken.{untaken}
+use Rattle.just_ast_expressions.specs.loops.Taken.{untaken}
 use Rattle.just_ast_expressions.proofs.Sizes.{size}
 use Rattle.just_ast_expressions.proofs.expression.Expression.+drop.Given as goal
 

@@ -1,7 +1,8 @@
 use Rattle.std.proofs.Common.{sym, ◌∙◌, ap}
 use Rattle.std.specs.Option.{option_or}
 use Rattle.just_table.specs.Entries.{find}
-use Rattle.just_bench_values.specs.Lookup.{functions_with, named_so}
+use Rattle.just_bench_values.specs.Lookup.{functions_with}
+use Rattle.just_bench_values.specs.loops.Lookup.{named_so}
 use Rattle.just_bench_values.proofs.Behind.{find_behind}
 use Rattle.just_bench_values.proofs.lookup.Functions.get.Goals as goal
 

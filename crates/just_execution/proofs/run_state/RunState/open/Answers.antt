@@ -2,7 +2,7 @@ use Rattle.std.proofs.Common.{◌≡◌, ◌≢◌, ◌++◌, ◌∷◌, [], Lis
 use Rattle.just_execution.specs.declared.run_state.RunState.{RunState}
 use Rattle.just_execution.specs.declared.frame.Frame.TheVariants.{Back}
 use Rattle.just_execution.specs.declared.task.Task.{Task}
-use Rattle.just_execution.specs.Frames.{state_of}
+use Rattle.just_execution.specs.loops.Frames.{state_of}
 use Rattle.just_execution.specs.Walking.{opened}
 use Rattle.just_execution.proofs.RunStates.{is-opened, not-opened, pushed-calls}
 use Rattle.just_execution.proofs.Places.{OnOk-map}

@@ -3,7 +3,8 @@ use Rattle.std.specs.Option.{option_copied}
 use Rattle.just_parts.specs.declared.layers.config.Subcommand.TheVariants.{Command, Evaluate}
 use Rattle.just_run_layers.specs.Interactions.{log_of}
 use Rattle.just_scopes.specs.Opening.{handed_of}
-use Rattle.just_invoke.specs.Command.{IsProgramRun, IsProgramRunAsExpected, program_asked}
+use Rattle.just_invoke.specs.Command.{IsProgramRun, IsProgramRunAsExpected}
+use Rattle.just_invoke.specs.loops.Command.{program_asked}
 use Rattle.just_invoke.specs.Evaluation.{IsEvaluation, runs_recipes, writer_of}
 use Rattle.just_invoke.proofs.run.JustfileRun.run.Goals as goal
 

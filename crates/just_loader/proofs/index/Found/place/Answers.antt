@@ -1,6 +1,6 @@
 use Rattle.std.proofs.Common.{◌≡◌, length, arith, rules}
 use Rattle.std.proofs.lemmas.Grind.{common_steps}
-use Rattle.just_loader.specs.Numbering.{IsFile}
+use Rattle.just_loader.specs.loops.Numbering.{IsFile}
 use Rattle.just_loader.proofs.Numberings.{found_more}
 use Rattle.just_loader.proofs.index.Found.place.Goals as goal
 

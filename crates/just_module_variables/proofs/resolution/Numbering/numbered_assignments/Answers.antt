@@ -7,7 +7,7 @@ use Rattle.std.proofs.lemmas.Map.Iter.{iter_end}
 use Rattle.just_ast_definitions.specs.declared.assignment.Assignment.{Assignment}
 use Rattle.just_table.specs.Entries.{put_all}
 use Rattle.just_module_variables.specs.Numbered.{assignment_by, name_of_assignment, with_value_numbers}
-use Rattle.just_module_variables.specs.Numbering.{number_here}
+use Rattle.just_module_variables.specs.loops.Numbering.{number_here}
 use Rattle.just_module_variables.proofs.Steps.{values_more}
 use Rattle.just_module_variables.proofs.resolution.Numbering.numbered_assignments.Goals as goal
 

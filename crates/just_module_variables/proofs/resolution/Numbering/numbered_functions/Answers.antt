@@ -4,7 +4,7 @@ use Rattle.std.proofs.lemmas.Map.Iter.{iter_end}
 use Rattle.just_ast_definitions.specs.declared.function_definition.FunctionDefinition.{FunctionDefinition}
 use Rattle.just_table.specs.Entries.{put_all}
 use Rattle.just_module_variables.specs.Numbered.{function_by, name_of_function}
-use Rattle.just_module_variables.specs.Numbering.{number_here}
+use Rattle.just_module_variables.specs.loops.Numbering.{number_here}
 use Rattle.just_module_variables.proofs.resolution.Numbering.numbered_functions.Goals as goal
 
 pub returns-clause-made : goal.returns-clause-made

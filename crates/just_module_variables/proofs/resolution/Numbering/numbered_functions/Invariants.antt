@@ -1,6 +1,6 @@
 use Rattle.std.proofs.Common.{◌≡◌, map}
 use Rattle.just_module_variables.specs.Numbered.{function_by}
-use Rattle.just_module_variables.specs.Numbering.{number_here}
+use Rattle.just_module_variables.specs.loops.Numbering.{number_here}
 use Rattle.just_module_variables.proofs.resolution.Numbering.numbered_functions.Given as goal
 
 abbrev pub invariant-loop-function : goal.invariant-loop-function

@@ -1,6 +1,6 @@
 use Rattle.std.proofs.Common.{rules, Some, None, length, refl, sym}
 use Rattle.std.proofs.lemmas.Option.{slice_get_past, slice_get_read}
-use Rattle.just_tail.specs.Reader.{switch_of}
+use Rattle.just_tail.specs.loops.Reader.{switch_of}
 use Rattle.just_tail.proofs.Places.{found_at}
 use Rattle.just_tail.proofs.plan.Plan.option.Goals as goal
 

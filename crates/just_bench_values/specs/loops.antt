@@ -1,0 +1,3 @@
+pub mod Constants
+pub mod Lookup
+pub mod Tasks

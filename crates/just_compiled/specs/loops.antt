@@ -1,0 +1,2 @@
+pub mod Analysis
+pub mod Settled

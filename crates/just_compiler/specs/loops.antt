@@ -1,0 +1,3 @@
+pub mod Analyzed
+pub mod Parts
+pub mod Steps

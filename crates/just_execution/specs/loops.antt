@@ -1,0 +1,6 @@
+pub mod Arguments
+pub mod Frames
+pub mod Homes
+pub mod Lower
+pub mod Pairs
+pub mod TaskInteractions

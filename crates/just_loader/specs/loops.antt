@@ -1,0 +1,9 @@
+pub mod FileCircles
+pub mod Keys
+pub mod Links
+pub mod Loading
+pub mod Numbering
+pub mod Parsed
+pub mod Placed
+pub mod Reading
+pub mod Scanned

@@ -1,0 +1,4 @@
+pub mod Contents
+pub mod Defaults
+pub mod Kept
+pub mod Recipes

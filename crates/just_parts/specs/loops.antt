@@ -1,0 +1,2 @@
+pub mod Misnaming
+pub mod Scopes
