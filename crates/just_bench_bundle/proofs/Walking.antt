@@ -20,7 +20,7 @@ use Rattle.just_bench_syntax.specs.Answers.{answers}
 use Rattle.just_errors.specs.Causes.{NoHome}
 use Rattle.just_errors.specs.declared.error.Error.TheVariants as error
 use Rattle.just_errors.specs.declared.load_error.LoadError.TheVariants as load
-use Rattle.just_loader.specs.Links.{Fault, link_by}
+use Rattle.just_loader.specs.Links.{AtFault, link_by}
 use Rattle.just_loader.specs.Reached.{World, world_of, IsReachedFile, from_root, from_file, items_of_file, relative_to_root, FileLeadsTo}
 use Rattle.just_loader.specs.Sources.{Files}
 use Rattle.just_loader.specs.declared.sources.SourceFile.{SourceFile}
@@ -84,7 +84,7 @@ pub record WalkedSoFar (w : World) (walk : Walk) (place : ℕ) : Type 0 where
   pub reached : (path : List ℕ) → Contains (found_in walk) path → IsReachedFile w path
   pub all : HasAll w.files walk
   pub root : IsLeft walk w.root → ⊥
-  pub none : (k : ℕ) (path : List ℕ) → k < place → slice_get (found_in walk) k ≡ Some path → IsClean path → (line : ℕ) → StandsIn w path (Fault NoHome) line → ⊥
+  pub none : (k : ℕ) (path : List ℕ) → k < place → slice_get (found_in walk) k ≡ Some path → IsClean path → (line : ℕ) → StandsIn w path (AtFault NoHome) line → ⊥
   pub led : (k : ℕ) (path : List ℕ) → k < place → slice_get (found_in walk) k ≡ Some path → IsClean path → LeavesNone (FileLeadsTo w path) walk
 
 module _ (w : World) where
@@ -109,7 +109,7 @@ module _ (w : World) where
 
   module _ (walk : Walk) (place : ℕ) (so : WalkedSoFar w walk place) where
     -- the next is visited
-    pub visited : (path : List ℕ) (new : Walk) → slice_get (found_in walk) place ≡ Some path → Walks (FileLeadsTo w path) walk new → FindsIn w path (Fault NoHome) None → (IsClean path → LeavesNone (FileLeadsTo w path) new)
+    pub visited : (path : List ℕ) (new : Walk) → slice_get (found_in walk) place ≡ Some path → Walks (FileLeadsTo w path) walk new → FindsIn w path (AtFault NoHome) None → (IsClean path → LeavesNone (FileLeadsTo w path) new)
         → WalkedSoFar w new (place + 1)
     visited path new at walks finds leaves =
         let long : place < length (found_in walk) = slice_get_within (found_in walk) place path at in
@@ -128,7 +128,7 @@ module _ (w : World) where
           none = λ k p h e clean. elim (cases_lt k place) [
             | inl earlier ↦ so.none k p earlier (before k p h e) clean
             | inr later ↦ let same : path ≡ p = last k p (omega (arith, h, later)) e in
-                λ line s. finds (subst IsClean (sym same) clean) line (subst (λ x. StandsIn w x (Fault NoHome) line) (sym same) s)
+                λ line s. finds (subst IsClean (sym same) clean) line (subst (λ x. StandsIn w x (AtFault NoHome) line) (sym same) s)
           ];
           led = λ k p h e clean. elim (cases_lt k place) [
             | inl earlier ↦ λ next l left. so.led k p earlier (before k p h e) clean next l (walks.fewer next left)
@@ -138,10 +138,10 @@ module _ (w : World) where
         }
 
     -- an item of one that is found wants a home folder
-    pub told : (path : List ℕ) (it : FileLine) → slice_get (found_in walk) place ≡ Some path → it.path ≡ path → StandsIn w path (Fault NoHome) it.line → IsLineOf w (error.Load load.Homedir) it
+    pub told : (path : List ℕ) (it : FileLine) → slice_get (found_in walk) place ≡ Some path → it.path ≡ path → StandsIn w path (AtFault NoHome) it.line → IsLineOf w (error.Load load.Homedir) it
     told path it at is s = (
       so.reached it.path (subst (Contains (found_in walk)) (sym is) (got (found_in walk) place path at)),
-      subst (λ x. StandsIn w x (Fault NoHome) it.line) (sym is) s,
+      subst (λ x. StandsIn w x (AtFault NoHome) it.line) (sym is) s,
     )
 
     module _ (past : length (found_in walk) ≤ place) (clean : All IsClean (keys_of w.files)) where

@@ -9,7 +9,7 @@ use Rattle.just_errors.specs.Causes.{NoHome}
 use Rattle.just_errors.specs.declared.error.Error.{Error}
 use Rattle.just_errors.specs.declared.error.Error.TheVariants as error
 use Rattle.just_errors.specs.declared.load_error.LoadError.TheVariants as load
-use Rattle.just_loader.specs.Links.{Link, To, Fault}
+use Rattle.just_loader.specs.Links.{Link, To, AtFault}
 use Rattle.just_loader.specs.Reached.{World, HasItem, IsReachedFile, link}
 use Rattle.just_names.specs.Texts.{Text}
 use Rattle.just_names.specs.declared.name.Name.{Name}
@@ -48,7 +48,7 @@ StandsIn w path = StandsOn (HasItem w path) (link w (folder_of path))
 -- that wants one, in a file that is reached.
 abbrev pub IsLineOf : World → Error → FileLine → Type 0
 IsLineOf w (error.Load (load.CircularImport current import)) it = (it.path ≡ current) × StandsIn w current (To import) it.line
-IsLineOf w (error.Load load.Homedir) it = IsReachedFile w it.path × StandsIn w it.path (Fault NoHome) it.line
+IsLineOf w (error.Load load.Homedir) it = IsReachedFile w it.path × StandsIn w it.path (AtFault NoHome) it.line
 IsLineOf w _ it = ⊥
 
 -- the line of an error is told, or there is none, where the paths of the files are clean

@@ -4,7 +4,7 @@ ghost use Rattle.just_bench_bundle.specs.Places.{IsOnLine, item_line};
 ghost use Rattle.just_bench_bundle.specs.loops.Places.{Finds, lead_of};
 ghost use Rattle.just_bench_syntax.specs.Answers.{answers};
 ghost use Rattle.just_errors.specs.Causes.{Reports};
-ghost use Rattle.just_loader.specs.Links.{Fault, Link, To, link_by};
+ghost use Rattle.just_loader.specs.Links.{AtFault, Link, To, link_by};
 
 use just_ast_items::Edge;
 use just_bench_syntax::PlainSyntax;
@@ -40,7 +40,7 @@ pub(crate) fn line_at(item: &Item) -> Option<usize>
 
 // What the error of an item tells a search. The error is want of memory.
 fn fault(error: &Error) -> Result<Lead, AllocError>
-    ensures { (to : Link) → Reports (λ c. to ≡ Fault c) error.now → IfOk result (λ lead. lead ≡ lead_of to) }
+    ensures { (to : Link) → Reports (λ c. to ≡ AtFault c) error.now → IfOk result (λ lead. lead ≡ lead_of to) }
 {
     match error {
         Error::Load(LoadError::Homedir) => Ok(Lead::Home),

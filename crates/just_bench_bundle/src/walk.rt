@@ -8,7 +8,7 @@ ghost use Rattle.just_bench_syntax.specs.Answers.{answers};
 ghost use Rattle.just_errors.specs.Causes.{NoHome};
 ghost use Rattle.just_errors.specs.declared.error.Error.TheVariants as error;
 ghost use Rattle.just_errors.specs.declared.load_error.LoadError.TheVariants as load;
-ghost use Rattle.just_loader.specs.Links.{Fault, To, link_by};
+ghost use Rattle.just_loader.specs.Links.{AtFault, To, link_by};
 ghost use Rattle.just_loader.specs.Reached.{FileLeadsTo, world_of};
 ghost use Rattle.just_paths.specs.Clean.{IsClean};
 
@@ -62,7 +62,7 @@ fn visit<'src>(
     folder: &str,
     walk: &mut Walk<'src>,
 ) -> Result<Option<usize>, AllocError>
-    ensures line { IfOk result (Finds (IsOnLine (link_by sources.now config.now (answers []) folder.now) (Fault NoHome) item.now)) }
+    ensures line { IfOk result (Finds (IsOnLine (link_by sources.now config.now (answers []) folder.now) (AtFault NoHome) item.now)) }
     ensures walks { OnOk result (Walks (λ path. link_by sources.now config.now (answers []) folder.now item.now ≡ To path) walk.old walk.new) }
     ensures found { OnOk result (LeavesNone (λ path. link_by sources.now config.now (answers []) folder.now item.now ≡ To path) walk.new) }
 {
@@ -85,7 +85,7 @@ fn visit_items<'src>(
     folder: &str,
     walk: &mut Walk<'src>,
 ) -> Result<Option<usize>, AllocError>
-    ensures line { IfOk result (Finds (StandsOn (Contains items.now) (link_by sources.now config.now (answers []) folder.now) (Fault NoHome))) }
+    ensures line { IfOk result (Finds (StandsOn (Contains items.now) (link_by sources.now config.now (answers []) folder.now) (AtFault NoHome))) }
     ensures walks { OnOk result (Walks (LeadAmong items.now (link_by sources.now config.now (answers []) folder.now)) walk.old walk.new) }
     ensures found { let leads = LeadAmong items.now (link_by sources.now config.now (answers []) folder.now) in
         IfOk result (λ line. IfNone line (LeavesNone leads walk.new)) }
@@ -108,7 +108,7 @@ fn visit_file<'src>(
     walk: &mut Walk<'src>,
 ) -> Result<Option<usize>, AllocError>
     requires { IsClean root.now }
-    ensures line { IfOk result (FindsIn (world_of sources.now config.now (answers []) root.now) path.now (Fault NoHome)) }
+    ensures line { IfOk result (FindsIn (world_of sources.now config.now (answers []) root.now) path.now (AtFault NoHome)) }
     ensures walks { OnOk result (Walks (FileLeadsTo (world_of sources.now config.now (answers []) root.now) path.now) walk.old walk.new) }
     ensures found { let leads = FileLeadsTo (world_of sources.now config.now (answers []) root.now) path.now in
         IfOk result (λ line. IfNone line (IsClean path.now → LeavesNone leads walk.new)) }

@@ -15,7 +15,7 @@ use Rattle.just_errors.specs.declared.refusal.Refusal.{Refusal}
 use Rattle.just_names.specs.Name.{text_of_name}
 use Rattle.just_names.specs.Texts.{Text}
 use Rattle.just_names.specs.declared.number.Number.{Number}
-use Rattle.just_parts.specs.Evaluator.{value_in, values_of}
+use Rattle.just_parts.specs.Evaluator.{value_in, scope_values}
 use Rattle.just_parts.specs.Needs.{same_number}
 use Rattle.just_run_layers.specs.declared.held.Held.{Held}
 use Rattle.just_run_layers.specs.Covering.{BindsParameters, binds, has_parameter}
@@ -51,11 +51,11 @@ module _ (scope : Scope) (p : Parameter) (value : List Text) where
   binds_with : (n : Number) → binds more n ≡ (binds scope n || same_number p.number n)
   binds_with n = any_end (λ (b : Binding). same_number b.number n) scope.bindings _
 
-  value_with_own : (name : Text) → bytes_eq (text_of_name p.name) name ≡ true → values_of more name ≡ Some value
-  value_with_own name is = ap (λ bs. value_in bs name) (reverse_end scope.bindings _) ∙ cond-true (bytes_eq (text_of_name p.name) name) (Some value) (values_of scope name) is
+  value_with_own : (name : Text) → bytes_eq (text_of_name p.name) name ≡ true → scope_values more name ≡ Some value
+  value_with_own name is = ap (λ bs. value_in bs name) (reverse_end scope.bindings _) ∙ cond-true (bytes_eq (text_of_name p.name) name) (Some value) (scope_values scope name) is
 
-  value_with_other : (name : Text) → bytes_eq (text_of_name p.name) name ≡ false → values_of more name ≡ values_of scope name
-  value_with_other name is = ap (λ bs. value_in bs name) (reverse_end scope.bindings _) ∙ cond-false (bytes_eq (text_of_name p.name) name) (Some value) (values_of scope name) is
+  value_with_other : (name : Text) → bytes_eq (text_of_name p.name) name ≡ false → scope_values more name ≡ scope_values scope name
+  value_with_other name is = ap (λ bs. value_in bs name) (reverse_end scope.bindings _) ∙ cond-false (bytes_eq (text_of_name p.name) name) (Some value) (scope_values scope name) is
 
   module _ (ps : List Parameter) (new : Scope) (b : BindsParameters ps more new) where
     exactly : (n : Number) → binds new n ≡ (list_any (λ (q : Parameter). same_number q.number n) (p ∷ ps) || binds scope n)
@@ -64,13 +64,13 @@ module _ (scope : Scope) (p : Parameter) (value : List Text) where
         let first : Bool = same_number p.number n in
         b.exactly n ∙ ap (λ x. any || x) (binds_with n ∙ or_comm (binds scope n) first) ∙ sym (or_assoc any first (binds scope n)) ∙ ap (λ x. x || binds scope n) (or_comm any first)
 
-    named_by : (name : Text) (rest : Bool) → has_parameter ps name ≡ rest → has_parameter (p ∷ ps) name ≡ true → IsSome (values_of new name)
+    named_by : (name : Text) (rest : Bool) → has_parameter ps name ≡ rest → has_parameter (p ∷ ps) name ≡ true → IsSome (scope_values new name)
     named_by name true e h = b.named name e
     named_by name false e h =
         let is : bytes_eq (text_of_name p.name) name ≡ true = first_true (bytes_eq (text_of_name p.name) name) (has_parameter ps name) h e in
         subst IsSome (sym (b.others name e ∙ value_with_own name is)) refl
 
-    others : (name : Text) → has_parameter (p ∷ ps) name ≡ false → values_of new name ≡ values_of scope name
+    others : (name : Text) → has_parameter (p ∷ ps) name ≡ false → scope_values new name ≡ scope_values scope name
     others name h =
         let not = either_false (bytes_eq (text_of_name p.name) name) (has_parameter ps name) h in
         b.others name not.1 ∙ value_with_other name not.0

@@ -10,11 +10,11 @@ use Rattle.just_ast_expressions.specs.declared.expression.Expression.{Expression
 use Rattle.just_ast_expressions.specs.declared.scope.Scope.{Scope}
 use Rattle.just_names.specs.Texts.{Text}
 use Rattle.just_names.specs.declared.number.Number.{Number}
-use Rattle.just_parts.specs.Evaluator.{functions_by_name, values_of, wanted_by, Wanted}
+use Rattle.just_parts.specs.Evaluator.{functions_by_name, scope_values, wanted_by, Wanted}
 use Rattle.just_parts.specs.Needs.{same_number}
 use Rattle.just_run_layers.specs.declared.held.Held.{Held}
 use Rattle.just_run_layers.specs.Evaluation.{ContextContents, Inquiry, Assignments, Parameters, Value, StringOf, LineOf, Environment, NumberSet, ScopeRequest, in_set}
-use Rattle.just_run_layers.specs.Host.{Answer, Bound, Changed, Given, Refused, Scoped, Valued}
+use Rattle.just_run_layers.specs.Host.{Answer, Bound, Changed, TextGiven, Refused, ScopeGiven, Valued}
 use Rattle.just_bench_values.specs.Constants.{scope_of}
 use Rattle.just_bench_evaluation.specs.Dependency.{dependency_function}
 use Rattle.just_bench_evaluation.specs.Environments.{environment_changes}
@@ -28,7 +28,7 @@ use Rattle.just_bench_evaluation.specs.declared.requests.Asked.{Asked}
 
 -- The value of an expression in a module and a scope, with a function behind those of the module. A name has the value that the scope binds it to; in the body of a function, which no recipe's parameters hide, a variable has the value of its number.
 abbrev pub value_behind : FunctionDefinition → ContextContents → Scope → Expression → Outcome
-value_behind builtin context scope = value_with 64 (functions_by_name (behind builtin context.functions)) (variable_values context.assignments scope) (values_of scope)
+value_behind builtin context scope = value_with 64 (functions_by_name (behind builtin context.functions)) (variable_values context.assignments scope) (scope_values scope)
 
 -- the same with the built-in function
 abbrev pub run_value : ContextContents → Bool → Scope → Expression → Outcome
@@ -59,11 +59,11 @@ or_refused answer (Some x) = answer x
 
 -- the answer to each question
 abbrev pub plain_answer : Inquiry → Answer
-plain_answer (Assignments context parent set) = or_refused (λ scope. Scoped scope) (run_scope context set)
+plain_answer (Assignments context parent set) = or_refused (λ scope. ScopeGiven scope) (run_scope context set)
 plain_answer (Parameters context scope groups is_dependency parameters recipe) = or_refused (λ bound. Bound bound) (run_parameters context is_dependency scope groups parameters)
 plain_answer (Value around e) = or_refused (λ value. Valued value) (run_value around.context around.is_dependency around.scope e)
-plain_answer (StringOf around e) = or_refused (λ text. Given text) (run_text around.context around.is_dependency around.scope e)
-plain_answer (LineOf around line continued) = or_refused (λ text. Given text) (run_line around.context around.is_dependency around.scope line)
+plain_answer (StringOf around e) = or_refused (λ text. TextGiven text) (run_text around.context around.is_dependency around.scope e)
+plain_answer (LineOf around line continued) = or_refused (λ text. TextGiven text) (run_line around.context around.is_dependency around.scope line)
 plain_answer (Environment dotenv scope settings unexports) = Changed (environment_changes dotenv scope settings unexports)
 
 -- a question for variables, as it is kept

@@ -5,7 +5,7 @@ use Rattle.std.specs.List.{All}
 use Rattle.std.proofs.lemmas.List.{drop-set-lt, take_more_set}
 use Rattle.std.proofs.lemmas.List.Elements.{All-head, All-tail}
 use Rattle.just_parts.specs.Items.{Item}
-use Rattle.just_parts.specs.Syntax.{AreRising, item_numbers, numbers}
+use Rattle.just_parts.specs.Syntax.{AreRising, item_numbers, numbers_of_items}
 use Rattle.just_bench_syntax.specs.Numbering.{counted}
 use Rattle.just_bench_syntax.specs.loops.Numbering.{AreNumberedInTurn}
 
@@ -50,4 +50,4 @@ pub first : {A : Type 0} (P : A → Type 0) (xs : List A) (k : ℕ) (old : A) �
 first P xs k old within here left = All-head P old _ (subst (All P) (rest xs k old old within here) left)
 
 pub counted_rest : (xs : List Item) (k : ℕ) (old new : Item) → k < length xs → old ≡ get_or xs k old → counted (drop k xs) ≡ length (item_numbers old) + counted (drop (k + 1) (set xs k new))
-counted_rest xs k old new within here = ap counted (rest xs k old new within here) ∙ length-append (item_numbers old) (numbers (drop (k + 1) (set xs k new)))
+counted_rest xs k old new within here = ap counted (rest xs k old new within here) ∙ length-append (item_numbers old) (numbers_of_items (drop (k + 1) (set xs k new)))

@@ -2,7 +2,7 @@
 ghost use Rattle.std.specs.Prelude.{◌≡◌, ◌≤◌, ◌+◌, ◌^◌, length, map, IfErr, OnOk};
 ghost use Rattle.std.specs.List.{All};
 ghost use Rattle.just_parts.specs.Bare.{bare_assignment, bare_function, bare_function_parameter, bare_item, bare_parameter, bare_recipe};
-ghost use Rattle.just_parts.specs.Syntax.{CameBy, ItemCameBy, function_numbers, item_numbers, numbers, parameter_numbers, recipe_numbers};
+ghost use Rattle.just_parts.specs.Syntax.{CameBy, ItemCameBy, function_numbers, item_numbers, numbers_of_items, parameter_numbers, recipe_numbers};
 ghost use Rattle.just_bench_syntax.specs.Numbering.{counted};
 ghost use Rattle.just_bench_syntax.specs.loops.Numbering.{AreNumberedInTurn, Spent};
 
@@ -148,7 +148,7 @@ pub fn number_items<'src>(
     requires { All (λ i. bare_item i ≡ i) items.old.items }
     ensures bare { OnOk result (map bare_item items.new.items ≡ items.old.items) }
     ensures source { OnOk result (All (ItemCameBy source.now) items.new.items) }
-    ensures numbered { OnOk result (AreNumberedInTurn numerator.old (numbers items.new.items) numerator.new) }
+    ensures numbered { OnOk result (AreNumberedInTurn numerator.old (numbers_of_items items.new.items) numerator.new) }
     ensures spent { OnOk result (numerator.new ≡ numerator.old + counted items.old.items) }
     ensures refused { IfErr result (Spent (numerator.old + counted items.old.items)) }
     ensures onward { numerator.old ≤ numerator.new }

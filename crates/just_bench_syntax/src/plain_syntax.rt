@@ -2,7 +2,7 @@
 ghost use Rattle.std.specs.Prelude.{◌≡◌, ◌≤◌, ◌<◌, ◌+◌, ◌^◌, ℕ, [], Ok, Err, Some, length, map, false, IfOk, IfErr, OnOk};
 ghost use Rattle.std.specs.List.{All};
 ghost use Rattle.just_parts.specs.Bare.{bare_ast};
-ghost use Rattle.just_parts.specs.Syntax.{IsFrom, AreNoConstants, AttributesNameParameters, PriorsAreDependencies, components_of, numbers, AreRising, Refuses};
+ghost use Rattle.just_parts.specs.Syntax.{IsFrom, AreNoConstants, AttributesNameParameters, PriorsAreDependencies, components_of, numbers_of_items, AreRising, Refuses};
 ghost use Rattle.just_bench_syntax.specs.Items.{items_of};
 ghost use Rattle.just_bench_syntax.specs.Refusal.{IsInLine, RefusesLine};
 ghost use Rattle.just_bench_syntax.specs.Answers as spec;
@@ -77,8 +77,8 @@ impl<'a> Syntax for PlainSyntax<'a> {
     ) -> Result<Ast<'src>, Error<'src>>
         ensures items { IfOk result (λ ast. (spec.answers self.now.pairs.now).parsed relative.now text.now ≡ Some (bare_ast ast)) }
         ensures source { IfOk result (IsFrom source.now) }
-        ensures numbers { IfOk result (λ ast. AreRising numerator.old (numbers ast.items) numerator.new) }
-        ensures constants { IfOk result (λ ast. AreNoConstants (spec.answers self.now.pairs.now).constant (numbers ast.items)) }
+        ensures numbers { IfOk result (λ ast. AreRising numerator.old (numbers_of_items ast.items) numerator.new) }
+        ensures constants { IfOk result (λ ast. AreNoConstants (spec.answers self.now.pairs.now).constant (numbers_of_items ast.items)) }
         ensures priors { IfOk result (λ ast. All PriorsAreDependencies ast.items) }
         ensures attributes { IfOk result (λ ast. All AttributesNameParameters ast.items) }
         ensures spent { OnOk result (numerator.new ≡ numerator.old + spec.spends relative.now text.now) }

@@ -15,7 +15,7 @@ use Rattle.just_names.specs.Index.{AreDifferent, name_at}
 use Rattle.just_names.specs.Texts.{Text}
 use Rattle.just_names.specs.Name.{text_of_name}
 use Rattle.just_names.specs.declared.number.Number.{Number}
-use Rattle.just_parts.specs.Evaluator.{Binds, IsBindingOf, Values, Wanted, unnumbered_assignment, value_in, values_of, wanted_by}
+use Rattle.just_parts.specs.Evaluator.{Binds, IsBindingOf, Values, Wanted, unnumbered_assignment, value_in, scope_values, wanted_by}
 use Rattle.just_parts.specs.Known.{sources}
 use Rattle.just_parts.specs.Reading.{IsEvaluationOrder}
 use Rattle.just_ast_definitions.specs.declared.assignment.Assignment.{Assignment}
@@ -27,7 +27,7 @@ use Rattle.just_bench_values.specs.Constants.{assigned_value, constants_of, dema
 use Rattle.just_bench_values.specs.Lookup.{constant_name, table_values}
 use Rattle.just_bench_values.specs.Values.{value_of}
 use Rattle.just_bench_values.specs.declared.lookup.Constant.{Constant}
-use Rattle.just_bench_values.proofs.Scoped.{binding_names, bindings_of, scope_each, scope_once, scope_values}
+use Rattle.just_bench_values.proofs.Scoped.{binding_names, bindings_of, scope_each, scope_once, values_of_scope}
 use Rattle.just_bench_values.proofs.Reversed.{contains_reverse, names_different}
 use Rattle.just_bench_values.proofs.Settled.{Settled, next_value, unassigned, unneeded_value}
 use Rattle.just_bench_values.proofs.Steps.{after_needed, after_unneeded, find_unnumbered, unneeded}
@@ -156,14 +156,14 @@ module _ (assignments : List (Text × Assignment)) (table : List (Text × Functi
         (λ entry. ap (λ b. not (wanted.needed entry.0) || b) (ap is_some (last_value entry.0) ∙ exactly entry.0) ∙ either (wanted.needed entry.0))
 
     module _ (keyed : IsKeyed constant_name constants) (sorted : IsSorted constants) (scope : Scope) (bindings : reverse scope.bindings ≡ bindings_of constants) where
-      value_is : (name : Text) → values_of scope name ≡ table_values constants name
-      value_is name = ap (λ bs. value_in bs name) bindings ∙ scope_values constants keyed name
+      value_is : (name : Text) → scope_values scope name ≡ table_values constants name
+      value_is name = ap (λ bs. value_in bs name) bindings ∙ values_of_scope constants keyed name
 
       -- the constants are those of the scope
-      pub constants_are : constants_of wanted ≡ Some (values_of scope)
+      pub constants_are : constants_of wanted ≡ Some (scope_values scope)
       constants_are =
           ap (λ b. if b then Some last_values else None) all_settled
-          ∙ (let same : last_values ≡ values_of scope = λ i name. (last_value name ∙ sym (value_is name)) i in ap (λ values. Some values) same)
+          ∙ (let same : last_values ≡ scope_values scope = λ i name. (last_value name ∙ sym (value_is name)) i in ap (λ values. Some values) same)
 
       overridden : (name text : Text) → wanted.needed name ≡ true → wanted.overrides name ≡ Some text → table_values constants name ≡ Some (text ∷ [])
       overridden name text need is =

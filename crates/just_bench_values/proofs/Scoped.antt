@@ -34,12 +34,12 @@ first_same true false c o p is rest = cc
 first_same false true c o p is rest = cc
 
 -- the scope has the values of the table
-pub scope_values : (es : List (Text × Constant)) → IsKeyed constant_name es → (name : Text) → value_in (bindings_of es) name ≡ table_values es name
-scope_values [] keyed name = refl
-scope_values (e ∷ es) keyed name =
+pub values_of_scope : (es : List (Text × Constant)) → IsKeyed constant_name es → (name : Text) → value_in (bindings_of es) name ≡ table_values es name
+values_of_scope [] keyed name = refl
+values_of_scope (e ∷ es) keyed name =
     first_same (bytes_eq (constant_name e.1) name) (bytes_eq name e.0) e.1 _ (find name es)
     (ap (λ t. bytes_eq t name) (All-head IsNamed e es keyed) ∙ nat_list_eq_equiv.symm e.0 name)
-    (scope_values es (All-tail IsNamed e es keyed) name)
+    (values_of_scope es (All-tail IsNamed e es keyed) name)
 
 names_are : (es : List (Text × Constant)) → IsKeyed constant_name es → binding_names (bindings_of es) ≡ keys_of es
 names_are [] keyed = refl

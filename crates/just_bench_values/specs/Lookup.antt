@@ -8,7 +8,7 @@ use Rattle.just_ast_definitions.specs.declared.function_definition.FunctionDefin
 use Rattle.just_ast_expressions.specs.declared.scope.Binding.{Binding}
 use Rattle.just_ast_expressions.specs.declared.scope.Scope.{Scope}
 use Rattle.just_names.specs.declared.number.Number.{Number}
-use Rattle.just_parts.specs.Evaluator.{FaultsAt, Values, values_of}
+use Rattle.just_parts.specs.Evaluator.{FaultsAt, Values, scope_values}
 use Rattle.just_parts.specs.Needs.{same_number}
 use Rattle.just_parts.specs.Told.{IsToldIn}
 use Rattle.just_names.specs.Texts.{Text}
@@ -45,7 +45,7 @@ abbrev pub variable_values : List (Text × Assignment) → Scope → Values
 variable_values assignments scope name = option_and_then (λ (a : Assignment). number_value scope a.number) (find name assignments)
 
 abbrev pub constant_values : Constants → Values
-constant_values (constants.Listed scope) = values_of scope.now
+constant_values (constants.Listed scope) = scope_values scope.now
 constant_values (constants.Tabled table) = table_values table.now
 constant_values (constants.Numbered variables) = variable_values variables.assignments.now variables.scope.now
 
@@ -64,7 +64,7 @@ functions_in functions = functions_with functions.builtin functions.table.now
 -- the values of what hides constants
 abbrev pub local_values : Locals → Values
 local_values (locals.Arguments arguments) = bound arguments.parameters.now arguments.values
-local_values (locals.Bindings scope) = values_of scope.now
+local_values (locals.Bindings scope) = scope_values scope.now
 
 -- A result tells an outcome: the value, or a fault at one of these places where there is none; want of memory aside.
 abbrev pub TellsOutcome : {A : Type 0} → Option A → (Place → Type 0) → Result A Error → Type 0

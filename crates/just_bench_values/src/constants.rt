@@ -4,7 +4,7 @@ ghost use Rattle.std.specs.HashMap.{get};
 ghost use Rattle.std.specs.Map as entries;
 ghost use Rattle.just_names.specs.Index.{texts_of_names};
 ghost use Rattle.just_names.specs.Name.{text_of_name};
-ghost use Rattle.just_parts.specs.Evaluator.{Binds, FaultsAt, functions_by_name, values_of, wanted_by};
+ghost use Rattle.just_parts.specs.Evaluator.{Binds, FaultsAt, functions_by_name, scope_values, wanted_by};
 ghost use Rattle.just_parts.specs.Known.{sources};
 ghost use Rattle.just_parts.specs.Needs.{same_number};
 ghost use Rattle.just_parts.specs.Reading.{IsEvaluationOrder};
@@ -143,7 +143,7 @@ pub fn constants_of<'src>(
     // Whether values are lists makes no difference.
     ensures constants { (lists : Bool) →
         let wanted = wanted_by assignments.now functions.now (get same_number overrides.now) (spec.is_asked references.entry) lists in
-        IfOk result (λ scope. spec.constants_of wanted ≡ Some (values_of scope)) }
+        IfOk result (λ scope. spec.constants_of wanted ≡ Some (scope_values scope)) }
     ensures binds { (lists : Bool) →
         let wanted = wanted_by assignments.now functions.now (get same_number overrides.now) (spec.is_asked references.entry) lists in
         IfOk result (Binds assignments.now wanted) }

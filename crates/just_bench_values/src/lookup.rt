@@ -2,7 +2,7 @@
 ghost use Rattle.std.specs.Prelude.{◌≡◌, List, None};
 ghost use Rattle.std.specs.Option.{option_copied, option_or};
 ghost use Rattle.just_names.specs.Texts as path;
-ghost use Rattle.just_parts.specs.Evaluator.{FaultsAt, values_of};
+ghost use Rattle.just_parts.specs.Evaluator.{FaultsAt, scope_values};
 ghost use Rattle.just_parts.specs.Told.{IsToldIn, nowhere};
 ghost use Rattle.just_table.specs.Entries.{find};
 ghost use Rattle.just_bench_values.specs.Lookup.{constant_values, functions_in, local_values, number_value, variable_values};
@@ -153,7 +153,7 @@ impl<'a, 'src> Locals<'a, 'src> {
 
 // The value that a scope binds a name to.
 fn bound_in<'a, 'src>(scope: &'a Scope<'src>, name: &str) -> Option<&'a Sequence<Text>>
-    ensures { option_copied result ≡ values_of scope.now name.now }
+    ensures { option_copied result ≡ scope_values scope.now name.now }
 {
     for binding in scope.bindings.iter() {
         if binding.name.lexeme() == name {

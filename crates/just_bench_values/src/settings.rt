@@ -1,6 +1,6 @@
 //! What settings come to.
 ghost use Rattle.std.specs.Prelude.{◌≡◌, IfOk, IfErr, OnOk, Some, flat_map, map};
-ghost use Rattle.just_parts.specs.Evaluator.{FaultsAt, bare_set, functions_by_name, interpreter_expressions, set_expressions, setting_expressions, values_of};
+ghost use Rattle.just_parts.specs.Evaluator.{FaultsAt, bare_set, functions_by_name, interpreter_expressions, set_expressions, setting_expressions, scope_values};
 ghost use Rattle.just_parts.specs.Told.{IsPlaceIn, IsPlaceInOne, IsToldIn};
 ghost use Rattle.just_bench_values.specs.Lookup.{TellsOutcome};
 ghost use Rattle.just_bench_values.specs.Settings as spec;
@@ -23,7 +23,7 @@ fn text<'src>(
     constants: &Scope<'src>,
     expression: &Expression<'src>,
 ) -> Result<Text, Error<'src>>
-    ensures { let values = value.value_of (functions_by_name functions.now) (values_of constants.now) in
+    ensures { let values = value.value_of (functions_by_name functions.now) (scope_values constants.now) in
         TellsOutcome (spec.text_with values expression.now) (IsPlaceIn functions.now expression.now) result }
 {
     let value = evaluate_among(alloc, functions, Constants::Listed(constants), expression)?;
@@ -37,7 +37,7 @@ fn texts<'src>(
     constants: &Scope<'src>,
     expressions: &[Expression<'src>],
 ) -> Result<Sequence<Text>, Error<'src>>
-    ensures { let values = value.value_of (functions_by_name functions.now) (values_of constants.now) in
+    ensures { let values = value.value_of (functions_by_name functions.now) (scope_values constants.now) in
         TellsOutcome (value.all_of (map (spec.text_with values) expressions.now)) (IsPlaceInOne functions.now expressions.now) result }
 {
     let mut texts = Sequence::new(alloc);
@@ -55,7 +55,7 @@ fn interpreter<'src>(
     constants: &Scope<'src>,
     interpreter: &Interpreter<Expression<'src>>,
 ) -> Result<Interpreter<Text>, Error<'src>>
-    ensures { let values = value.value_of (functions_by_name functions.now) (values_of constants.now) in
+    ensures { let values = value.value_of (functions_by_name functions.now) (scope_values constants.now) in
         TellsOutcome (spec.interpreter_with values interpreter.now) (IsPlaceInOne functions.now (interpreter_expressions interpreter.now)) result }
 {
     let command = text(alloc, functions, constants, &interpreter.command)?;
@@ -76,9 +76,9 @@ fn set<'src>(
     setting: &Setting<'src>,
     settings: &mut Settings,
 ) -> Result<(), Error<'src>>
-    ensures made { let values = value.value_of (functions_by_name functions.now) (values_of constants.now) in
+    ensures made { let values = value.value_of (functions_by_name functions.now) (scope_values constants.now) in
         OnOk result (spec.setting_with values setting.now settings.old ≡ Some settings.new) }
-    ensures refused { let values = value.value_of (functions_by_name functions.now) (values_of constants.now) in
+    ensures refused { let values = value.value_of (functions_by_name functions.now) (scope_values constants.now) in
         IfErr result (FaultsAt (spec.setting_with values setting.now settings.old)) }
     ensures told { IfErr result (IsToldIn (IsPlaceInOne functions.now (setting_expressions setting.now))) }
 {
@@ -135,10 +135,10 @@ pub fn settings_of<'src>(
     constants: &Scope<'src>,
     sets: &[Set<'src>],
 ) -> Result<Settings, Error<'src>>
-    ensures settings { let among = spec.settings_of (functions_by_name functions.now) (values_of constants.now) in
+    ensures settings { let among = spec.settings_of (functions_by_name functions.now) (scope_values constants.now) in
         IfOk result (λ made. among (map bare_set sets.now) ≡ Some made) }
     ensures programs { IfOk result (λ made. HasPrograms made) }
-    ensures refused { IfErr result (FaultsAt (spec.settings_of (functions_by_name functions.now) (values_of constants.now) (map bare_set sets.now))) }
+    ensures refused { IfErr result (FaultsAt (spec.settings_of (functions_by_name functions.now) (scope_values constants.now) (map bare_set sets.now))) }
     ensures told { IfErr result (IsToldIn (IsPlaceInOne functions.now (flat_map set_expressions sets.now))) }
 {
     let mut settings = plain_settings(alloc)?;

@@ -1,6 +1,6 @@
 //! What expressions come to.
 ghost use Rattle.std.specs.Prelude.{◌≡◌, [], ◌∷◌, Some, IfOk, IfErr};
-ghost use Rattle.just_parts.specs.Evaluator.{FaultsAt, functions_by_name, values_of};
+ghost use Rattle.just_parts.specs.Evaluator.{FaultsAt, functions_by_name, scope_values};
 ghost use Rattle.just_parts.specs.Told.{IsPlaceIn, IsToldIn};
 ghost use Rattle.just_ast_references.specs.Numbers.{bare};
 ghost use Rattle.just_bench_values.specs.Lookup.{TellsOutcome, constant_values, functions_in, local_values};
@@ -100,8 +100,8 @@ pub fn value_of<'src>(
     constants: &Scope<'src>,
     expression: &Expression<'src>,
 ) -> Result<Sequence<Text>, Error<'src>>
-    ensures value { IfOk result (λ value. spec.value_of (functions_by_name functions.now) (values_of constants.now) (bare expression.now) ≡ Some value) }
-    ensures refused { IfErr result (FaultsAt (spec.value_of (functions_by_name functions.now) (values_of constants.now) (bare expression.now))) }
+    ensures value { IfOk result (λ value. spec.value_of (functions_by_name functions.now) (scope_values constants.now) (bare expression.now) ≡ Some value) }
+    ensures refused { IfErr result (FaultsAt (spec.value_of (functions_by_name functions.now) (scope_values constants.now) (bare expression.now))) }
     ensures told { IfErr result (IsToldIn (IsPlaceIn functions.now expression.now)) }
 {
     evaluate_among(alloc, functions, Constants::Listed(constants), expression)

@@ -95,7 +95,7 @@ module _ (given : Given) (asts : AstKey → Option Ast) (loaded : List Text) (bu
 
   -- places and ends of walks
   pub data Agree : WalkEnd → End → Type 0 where
-    both_inside : {n : Module} {below : Forest} {c : Justfile} → Shows n below c → Agree (trees.In n below) (walks.Inside c)
+    both_inside : {n : Module} {below : Forest} {c : Justfile} → Shows n below c → Agree (trees.InModule n below) (walks.Inside c)
     both_absent : {names : List Text} → Agree (trees.Missing names) (walks.Absent names)
     both_nowhere : Agree trees.Nowhere walks.Nowhere
 
@@ -143,14 +143,14 @@ module _ (given : Given) (asts : AstKey → Option Ast) (loaded : List Text) (bu
 
   -- through a place a recipe is disabled by the module without a file at a path
   abbrev pub Through : WalkEnd → Text → Modulepath → Type 0
-  Through place last path = ((names : List Text) × (place ≡ trees.Missing names) × (path ≡ path_along names)) ⊎ ((n : Module) × (below : Forest) × (place ≡ trees.In n below) × DisabledBy n below last path)
+  Through place last path = ((names : List Text) × (place ≡ trees.Missing names) × (path ≡ path_along names)) ⊎ ((n : Module) × (below : Forest) × (place ≡ trees.InModule n below) × DisabledBy n below last path)
 
   -- a number is that of the recipe of a name, which stands in the module at a place
   pub record IsNumbered (place : WalkEnd) (last : Text) (number : Number) : Type 0 where
     pub n : Module
     pub below : Forest
     pub c : Justfile
-    pub leads_in : place ≡ trees.In n below
+    pub leads_in : place ≡ trees.InModule n below
     pub shows : Shows n below c
     pub i : ℕ
     pub there : i < length (kept_by given asts n)
@@ -181,7 +181,7 @@ module _ (given : Given) (asts : AstKey → Option Ast) (loaded : List Text) (bu
     | None ↦ option_map (λ (it : Disabled). resolution.Disabled it.modules) q
   ]
 
-  pub looked : (n : Module) (below : Forest) (c : Justfile) → Shows n below c → (last : Text) (o : Option RecipeKey) (q : Option Disabled) → find last (out-Justfile c).recipes ≡ o → find last (out-Justfile c).disabled_recipes ≡ q → Resolves (trees.In n below) last (answer o q)
+  pub looked : (n : Module) (below : Forest) (c : Justfile) → Shows n below c → (last : Text) (o : Option RecipeKey) (q : Option Disabled) → find last (out-Justfile c).recipes ≡ o → find last (out-Justfile c).disabled_recipes ≡ q → Resolves (trees.InModule n below) last (answer o q)
   looked n below c shows last (Some key) q f g =
       let is = shows.is in
       let k = key_found is.standing last key (ap (find last) (sym is.fields.recipes_are) ∙ f) in
@@ -212,7 +212,7 @@ module _ (given : Given) (asts : AstKey → Option Ast) (loaded : List Text) (bu
               ends = subst (Contains (names_of (kept_in n))) name (kept_named n shows.says r.0 r.1);
               each = λ path. (
                 (λ (c : Contains d.modules.keys path). inr (n, below, refl, subst (λ t. DisabledBy n below t path) name ((r.2.each path).0 c))),
-                (λ (h : Through (trees.In n below) last path). elim h [
+                (λ (h : Through (trees.InModule n below) last path). elim h [
                   | inl (names, e, is) ↦ absurd (cc)
                   | inr (k, b, e, d) ↦ (
                       let en : k ≡ n = cc in
@@ -257,5 +257,5 @@ module _ (given : Given) (asts : AstKey → Option Ast) (loaded : List Text) (bu
     far_or d = front_cases d.front (text_of_name d.last)
 
 -- one name leads nowhere else
-pub stays : (m : Module) (inside : Forest) (d : Namepath) → d.front ≡ [] → leads m inside d ≡ trees.In m inside
+pub stays : (m : Module) (inside : Forest) (d : Namepath) → d.front ≡ [] → leads m inside d ≡ trees.InModule m inside
 stays m inside d e = ap (λ front. follow (map text_of_name front) m inside) e

@@ -17,7 +17,7 @@ use Rattle.just_module_contents.specs.Standing.{AreStanding}
 use Rattle.just_module_aliases.specs.Aliased.{Targets, UnknownTargets, as_module, as_recipe, alias_meant, targets}
 use Rattle.just_module_recipes.specs.Linked.{HasDisabled, name_of_disabled}
 use Rattle.just_module_recipes.specs.Links.{Around, Disables, HasTarget, PathLeadsTo, IsNameOf, Stands, far, near, to_module, to_recipe}
-use Rattle.just_module_aliases.specs.declared.aliases.Meaning.{Meaning}
+use Rattle.just_module_aliases.specs.declared.aliases.AliasMeaning.{AliasMeaning}
 use Rattle.just_module_aliases.proofs.Aliasing.{means_none}
 use Rattle.just_names.specs.Name.{text_of_name}
 use Rattle.just_names.specs.Texts.{Text}
@@ -34,7 +34,7 @@ use Rattle.just_compiled.proofs.RecipeKeys.{found_among, key_found, not_found}
 use Rattle.just_compiled.proofs.StandingRecipes.{disabled_or, from_disabled, from_standing, into_standing}
 
 -- a path means something where it leads to a module or to a recipe
-module_meant : (rm : Option (Resolution Modulepath)) (other : Option Meaning) → as_module rm other ≡ None → (rm ≡ None) × (other ≡ None)
+module_meant : (rm : Option (Resolution Modulepath)) (other : Option AliasMeaning) → as_module rm other ≡ None → (rm ≡ None) × (other ≡ None)
 module_meant None other e = (refl, e)
 module_meant (Some (resolution.Disabled set)) other e = cc
 module_meant (Some (resolution.Resolved path)) other e = cc

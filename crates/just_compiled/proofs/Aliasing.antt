@@ -14,8 +14,8 @@ use Rattle.just_justfile.specs.declared.resolution.Resolution.{Resolution}
 use Rattle.just_justfile.specs.declared.resolution.Resolution.TheVariants as resolution
 use Rattle.just_justfile.proofs.Leading.{stands_along, walk_along}
 use Rattle.just_module_aliases.specs.Aliased.{Targets, aliases_onto, as_module_alias, as_recipe, as_recipe_alias, alias_meant, modules_among, name_of_alias, recipes_among, targets_of, with_meaning}
-use Rattle.just_module_aliases.specs.declared.aliases.Meaning.{Meaning}
-use Rattle.just_module_aliases.specs.declared.aliases.Meaning.TheVariants as meaning
+use Rattle.just_module_aliases.specs.declared.aliases.AliasMeaning.{AliasMeaning}
+use Rattle.just_module_aliases.specs.declared.aliases.AliasMeaning.TheVariants as meaning
 use Rattle.just_module_aliases.proofs.Aliasing.{one_added}
 use Rattle.just_module_tree.specs.Modules.{Forest, Module}
 use Rattle.just_module_tree.specs.Standing as trees
@@ -48,7 +48,7 @@ next_place names x absent found = elim found as (λ _. WalkEnd) [
 ]
 
 beyond_missing : (x : Text) (names : List Text) (p q : WalkEnd) → ((ns : List Text) → p ≡ trees.Missing ns → q ≡ trees.Missing ns) → trees.beyond x p ≡ trees.Missing names → trees.beyond x q ≡ trees.Missing names
-beyond_missing x names (trees.In n below) q ih e = cc
+beyond_missing x names (trees.InModule n below) q ih e = cc
 beyond_missing x names (trees.Missing ns) q ih e = ap (trees.beyond x) (ih ns refl) ∙ e
 beyond_missing x names trees.Nowhere q ih e = cc
 
@@ -63,12 +63,12 @@ still_missing (x ∷ front) last m inside names e = go (λ n. still_missing fron
     go inner absent None e = e
 
 -- aliases that mean something are in the tables of their meanings
-pub all_aliased : (t : Targets) (Means : Namepath → Meaning → Type 0) → ((path : Namepath) (it : Meaning) → alias_meant t path ≡ Some it → Means path it)
+pub all_aliased : (t : Targets) (Means : Namepath → AliasMeaning → Type 0) → ((path : Namepath) (it : AliasMeaning) → alias_meant t path ≡ Some it → Means path it)
     → (aliases : List (Alias Namepath)) (before : Aliases) → ((alias : Alias Namepath) → In alias aliases → alias_meant t alias.target ≢ None) → AddAliases Means before aliases (aliases_onto t before aliases)
 all_aliased t Means means [] before some = no_more
 all_aliased t Means means (alias ∷ aliases) before some = go (λ after. all_aliased t Means means aliases after (λ other i. some other (inr i))) (alias_meant t alias.target) refl
   where
-    go : ((after : Aliases) → AddAliases Means after aliases (aliases_onto t after aliases)) → (o : Option Meaning) → alias_meant t alias.target ≡ o → AddAliases Means before (alias ∷ aliases) (aliases_onto t before (alias ∷ aliases))
+    go : ((after : Aliases) → AddAliases Means after aliases (aliases_onto t after aliases)) → (o : Option AliasMeaning) → alias_meant t alias.target ≡ o → AddAliases Means before (alias ∷ aliases) (aliases_onto t before (alias ∷ aliases))
     go rest None e = absurd (some alias (inl refl) e)
     go rest (Some it) e =
         one_more (means alias.target it e)
@@ -76,14 +76,14 @@ all_aliased t Means means (alias ∷ aliases) before some = go (λ after. all_al
         (rest (with_meaning before alias it)))
 
 -- an alias of a recipe or of a module means that
-of_recipe_alias : (a : Alias Namepath) (made : Alias Number) (o : Option Meaning) → In made (as_recipe_alias a o) → o ≡ Some (meaning.Recipe made.target)
+of_recipe_alias : (a : Alias Namepath) (made : Alias Number) (o : Option AliasMeaning) → In made (as_recipe_alias a o) → o ≡ Some (meaning.Recipe made.target)
 of_recipe_alias a made None i = absurd i
 of_recipe_alias a made (Some (meaning.Disabled set)) i = absurd i
 of_recipe_alias a made (Some (meaning.Module path)) i = absurd i
 of_recipe_alias a made (Some (meaning.Recipe number)) (inl e) = ap (λ (x : Alias Number). Some (meaning.Recipe x.target)) (sym e)
 of_recipe_alias a made (Some (meaning.Recipe number)) (inr i) = absurd i
 
-pub of_module_alias : (a : Alias Namepath) (made : Alias Modulepath) (o : Option Meaning) → In made (as_module_alias a o) → o ≡ Some (meaning.Module made.target)
+pub of_module_alias : (a : Alias Namepath) (made : Alias Modulepath) (o : Option AliasMeaning) → In made (as_module_alias a o) → o ≡ Some (meaning.Module made.target)
 of_module_alias a made None i = absurd i
 of_module_alias a made (Some (meaning.Disabled set)) i = absurd i
 of_module_alias a made (Some (meaning.Module path)) (inl e) = ap (λ (x : Alias Modulepath). Some (meaning.Module x.target)) (sym e)
@@ -145,16 +145,16 @@ module _ (given : Given) (asts : AstKey → Option Ast) (loaded : List Text) (bu
       abbrev last : Text
       last = text_of_name path.last
 
-      abbrev Means : Meaning → Type 0
+      abbrev Means : AliasMeaning → Type 0
       Means = MeansIn given asts m inside path
 
       -- what is disabled is so in the module to which the names before the last lead
-      barred : (place : WalkEnd) (it : Meaning) (r : Option (Resolution Number)) → leads m inside path ≡ place → follow (texts_of_path path) m inside ≡ trees.Nowhere → Resolves given asts loaded built place last r → as_recipe r ≡ Some it → Means it
+      barred : (place : WalkEnd) (it : AliasMeaning) (r : Option (Resolution Number)) → leads m inside path ≡ place → follow (texts_of_path path) m inside ≡ trees.Nowhere → Resolves given asts loaded built place last r → as_recipe r ≡ Some it → Means it
       barred place it None p nowhere res f = cc
       barred place it (Some (resolution.Resolved number)) p nowhere res f =
           let same : meaning.Recipe number ≡ it = some_same f in
           subst Means same (a_recipe (record { to = res.n; below = res.below; leads_in = p ∙ res.leads_in; place = res.i; there = res.there; named = res.named; number_is = res.number_is }) nowhere res.stands)
-      barred (trees.In n below) it (Some (resolution.Disabled set)) p nowhere res f =
+      barred (trees.InModule n below) it (Some (resolution.Disabled set)) p nowhere res f =
           let same : meaning.Disabled set ≡ it = some_same f in
           subst Means same (a_disabled n below nowhere p res.some (λ by. (
             (λ (c : Contains set.keys by). elim ((res.each by).0 c) [
@@ -172,13 +172,13 @@ module _ (given : Given) (asts : AstKey → Option Ast) (loaded : List Text) (bu
           absurd (cc)
       barred trees.Nowhere it (Some (resolution.Disabled set)) p nowhere res f = absurd res.ends
 
-      by_agree : {place : WalkEnd} {end : End} → Agree given asts loaded built place end → follow (texts_of_path path) m inside ≡ place → (it : Meaning) → meaning_at end (as_recipe (recipe_from j path)) ≡ Some it → Means it
+      by_agree : {place : WalkEnd} {end : End} → Agree given asts loaded built place end → follow (texts_of_path path) m inside ≡ place → (it : AliasMeaning) → meaning_at end (as_recipe (recipe_from j path)) ≡ Some it → Means it
       by_agree (both_inside {n} {below} {c} there) p it f = subst Means (some_same f) (subst (λ x. Means (meaning.Module x)) (sym there.is.path) (a_module n below p))
       by_agree (both_absent {names}) p it f = subst Means (some_same f) (missing names p)
       by_agree both_nowhere p it f = barred (leads m inside path) it (recipe_from j path) refl p (looks_up path.front path.last) f
 
       -- what the path means over the tables it means in the tree
-      pub means_in : (it : Meaning) → alias_meant (targets_of j) path ≡ Some it → Means it
+      pub means_in : (it : AliasMeaning) → alias_meant (targets_of j) path ≡ Some it → Means it
       means_in it e = by_agree (all_agree path.front path.last) refl it (sym (meant_by (targets_of j) path) ∙ e)
 
       lost_recipe : (r : Option (Resolution Number)) → Resolves given asts loaded built (leads m inside path) last r → as_recipe r ≡ None → EndsWell (leads m inside path) last → ⊥

@@ -13,7 +13,7 @@ use Rattle.just_names.specs.declared.number.Number.{Number}
 use Rattle.just_parts.specs.Syntax.{SyntaxAnswers}
 use Rattle.just_recipe.specs.declared.dependency.UnresolvedDependency.{UnresolvedDependency}
 use Rattle.just_recipe.specs.declared.recipe.Recipe.{Recipe}
-use Rattle.just_recipe_names.specs.Numbered.{number_under, numbered_parameters, numbered_recipe, parameter_by, under}
+use Rattle.just_recipe_names.specs.Numbered.{number_under, numbered_parameters, numbered_recipe, parameter_by, under_parameters}
 use Rattle.just_recipe_values.specs.Valued.{informed, valued_named, with_values}
 
 required_by : (by : Expression → Expression) (p : Parameter) (value default : Option Expression) → is_required (record p { default = option_map by default; value = value }) ≡ is_required (record p { default = default })
@@ -31,8 +31,8 @@ module _ (number : List Parameter → Text → Option Number) where
   least_alike : (before ps : List Parameter) → least_arguments (numbered_parameters number before ps) ≡ least_arguments ps
   least_alike before [] = refl
   least_alike before (p ∷ ps) =
-      sum_by-cons counts (parameter_by (under number before) p) (numbered_parameters number (before ++ p ∷ []) ps)
-      ∙ ((λ i. cond (required_alike (under number before) p i) 1 0 + least_alike (before ++ p ∷ []) ps i) ∙ sym (sum_by-cons counts p ps))
+      sum_by-cons counts (parameter_by (under_parameters number before) p) (numbered_parameters number (before ++ p ∷ []) ps)
+      ∙ ((λ i. cond (required_alike (under_parameters number before) p i) 1 0 + least_alike (before ++ p ∷ []) ps i) ∙ sym (sum_by-cons counts p ps))
 
   length_alike : (before ps : List Parameter) → length (numbered_parameters number before ps) ≡ length ps
   length_alike before [] = refl

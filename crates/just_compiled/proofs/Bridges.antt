@@ -152,9 +152,9 @@ module _ (given : Given) (asts : AstKey → Option Ast) (loaded : List Text) (bu
   -- what disables through a place is among the paths of the look-up
   barred_of : (place : WalkEnd) (last : Text) (path : Modulepath) (r : Option (Resolution Number)) → Resolves given asts loaded built place last r → Through given asts loaded built place last path
       → (set : BTreeSet Modulepath) × (r ≡ Some (resolution.Disabled set)) × Contains set.keys path
-  barred_of place last path (Some (resolution.Resolved number)) r (inl (names, e, is)) = let f : trees.In r.n r.below ≡ trees.Missing names = sym r.leads_in ∙ e in absurd (cc)
+  barred_of place last path (Some (resolution.Resolved number)) r (inl (names, e, is)) = let f : trees.InModule r.n r.below ≡ trees.Missing names = sym r.leads_in ∙ e in absurd (cc)
   barred_of place last path (Some (resolution.Resolved number)) r (inr (k, b, e, d)) =
-      let f : trees.In k b ≡ trees.In r.n r.below = sym e ∙ r.leads_in in
+      let f : trees.InModule k b ≡ trees.InModule r.n r.below = sym e ∙ r.leads_in in
       let en : k ≡ r.n = cc in
       let eb : b ≡ r.below = cc in
       absurd (r.stands path (subst (λ z. DisabledBy r.n z last path) eb (subst (λ z. DisabledBy z b last path) en d)))
@@ -179,14 +179,14 @@ module _ (given : Given) (asts : AstKey → Option Ast) (loaded : List Text) (bu
   -- what is disabled in the tree is disabled over the compiled modules
   pub from_tree : {m : Module} {inside : Forest} {name : Text} {path : Modulepath} → DisabledBy m inside name path → (it : Around) → Meets given asts loaded built m inside it → Disables (kept m) it name path
   from_tree {m} {inside} {name} (through_absent d names by f) it meets = elim (far_or given asts loaded built m inside it meets d) [
-    | inl z ↦ (let g : trees.In m inside ≡ trees.Missing names = sym (stays m inside d z) ∙ f in absurd (cc))
+    | inl z ↦ (let g : trees.InModule m inside ≡ trees.Missing names = sym (stays m inside d z) ∙ f in absurd (cc))
     | inr r ↦ (
         let b = barred_of (leads m inside d) (text_of_name d.last) (path_along names) (found_by it d) r (inl (names, f, refl)) in
         by_walk d b.0 (by_files m meets.says name d by) b.1 b.2)
   ]
   from_tree {m} {inside} {name} {path} (by_disabled d n below by f rest) it meets = elim (far_or given asts loaded built m inside it meets d) [
     | inl z ↦ (
-        let g : trees.In m inside ≡ trees.In n below = sym (stays m inside d z) ∙ f in
+        let g : trees.InModule m inside ≡ trees.InModule n below = sym (stays m inside d z) ∙ f in
         let en : n ≡ m = cc in
         let eb : below ≡ inside = cc in
         let there : Meets given asts loaded built n below it = subst (λ k. Meets given asts loaded built k below it) (sym en) (subst (λ b. Meets given asts loaded built m b it) (sym eb) meets) in
@@ -428,7 +428,7 @@ module _ (given : Given) (asts : AstKey → Option Ast) (loaded : List Text) (bu
       far_takes lists d s least most t (Some (resolution.Disabled set)) e r =
           let p = some_path set.keys r.some in
           elim ((r.each p.0).0 (contained p.0 set.keys p.1)) [
-            | inl (names, g, is) ↦ (let f : trees.In t.n t.below ≡ trees.Missing names = sym t.leads_in ∙ g in absurd (cc))
+            | inl (names, g, is) ↦ (let f : trees.InModule t.n t.below ≡ trees.Missing names = sym t.leads_in ∙ g in absurd (cc))
             | inr (k, b, g, rest) ↦ absurd (s.stands p.0 (by_disabled d.recipe k b (record {
               from = s.from;
               there = s.there;
@@ -438,7 +438,7 @@ module _ (given : Given) (asts : AstKey → Option Ast) (loaded : List Text) (bu
           ]
       far_takes lists d s least most t (Some (resolution.Resolved number)) e r =
           let q = some_value (find_number it.held number.0) (are_settled.held d.recipe number e) in
-          let f : trees.In t.n t.below ≡ trees.In r.n r.below = sym t.leads_in ∙ r.leads_in in
+          let f : trees.InModule t.n t.below ≡ trees.InModule r.n r.below = sym t.leads_in ∙ r.leads_in in
           let en : t.n ≡ r.n = cc in
           let in_tree : r.i < length (kept_in r.n) = subst (λ k. r.i < k) (many (kept r.n) (kept_in r.n) r.shows.says.kept) r.there in
           let there : t.j < length (kept_in r.n) = subst (λ (x : Module). t.j < length (kept_in x)) en t.there in
@@ -457,7 +457,7 @@ module _ (given : Given) (asts : AstKey → Option Ast) (loaded : List Text) (bu
       takes_back lists d s least most t = elim (far_or given asts loaded built m inside it meets d.recipe) [
         | inr r ↦ far_takes lists d s least most t (found_by it d.recipe) refl r
         | inl z ↦ (
-            let f : trees.In t.n t.below ≡ trees.In m inside = sym t.leads_in ∙ stays m inside d.recipe z in
+            let f : trees.InModule t.n t.below ≡ trees.InModule m inside = sym t.leads_in ∙ stays m inside d.recipe z in
             let en : t.n ≡ m = cc in
             let in_tree : t.j < length (kept_in m) = subst (λ (x : Module). t.j < length (kept_in x)) en t.there in
             let named : name_of (recipe_at (kept_in m) t.j) ≡ text_of_name d.recipe.last = subst (λ (x : Module). name_of (recipe_at (kept_in x) t.j) ≡ text_of_name d.recipe.last) en t.named in

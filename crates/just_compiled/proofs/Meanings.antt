@@ -8,8 +8,8 @@ use Rattle.just_justfile.specs.declared.justfile.RecipeKey.{RecipeKey}
 use Rattle.just_justfile.specs.declared.resolution.Resolution.{Resolution}
 use Rattle.just_justfile.specs.declared.resolution.Resolution.TheVariants as resolution
 use Rattle.just_module_aliases.specs.Aliased.{Targets, as_module, as_recipe, alias_meant}
-use Rattle.just_module_aliases.specs.declared.aliases.Meaning.{Meaning}
-use Rattle.just_module_aliases.specs.declared.aliases.Meaning.TheVariants as meaning
+use Rattle.just_module_aliases.specs.declared.aliases.AliasMeaning.{AliasMeaning}
+use Rattle.just_module_aliases.specs.declared.aliases.AliasMeaning.TheVariants as meaning
 use Rattle.just_names.specs.Name.{text_of_name, texts_of_path}
 use Rattle.just_names.specs.Texts.{Text}
 use Rattle.just_names.specs.declared.name.Namepath.{Namepath}
@@ -63,7 +63,7 @@ end_last (x ∷ front) last absent modules = go (λ j. end_last front last (out-
     go inner false None = refl
 
 -- what a path means, by where its names lead, and by what the recipe to which it leads means
-abbrev pub meaning_at : End → Option Meaning → Option Meaning
+abbrev pub meaning_at : End → Option AliasMeaning → Option AliasMeaning
 meaning_at Here other = other
 meaning_at (Inside j) other = Some (meaning.Module (out-Justfile j).module_path)
 meaning_at (Absent names) other = Some (meaning.Disabled (only (path_along names)))
@@ -76,7 +76,7 @@ module_found names absent found = elim found as (λ _. Option (Resolution Module
   | None ↦ if absent then Some (resolution.Disabled (only (path_along names))) else None
 ]
 
-found_means : (front : List Text) (last : Text) (absent : Bool) (found : Option Justfile) (other : Option Meaning) → as_module (module_found (front ++ last ∷ []) absent found) other ≡ meaning_at (last_by front last absent found) other
+found_means : (front : List Text) (last : Text) (absent : Bool) (found : Option Justfile) (other : Option AliasMeaning) → as_module (module_found (front ++ last ∷ []) absent found) other ≡ meaning_at (last_by front last absent found) other
 found_means front last absent (Some j) other = refl
 found_means front last true None other = refl
 found_means front last false None other = refl

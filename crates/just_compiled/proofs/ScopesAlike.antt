@@ -24,7 +24,7 @@ use Rattle.just_names.specs.Texts.{Text}
 use Rattle.just_names.specs.declared.number.Number.{Number}
 use Rattle.just_parts.specs.Groups.{ends_group}
 use Rattle.just_parts.specs.Reading.{mentions}
-use Rattle.just_parts.specs.Scopes.{Scoped, attribute_expressions, compiled_expressions, environment_expressions, fragment_expressions, inner_expressions, is_parameter, line_expressions, lines_read, of_attributes, parameter_expressions, parameter_scopes, property_expressions, read_lines, scoped, scopes_of}
+use Rattle.just_parts.specs.Scopes.{Scoped, attribute_expressions, compiled_expressions, environment_expressions, fragment_expressions, inner_expressions, is_parameter, line_expressions, lines_read, expressions_in_attributes, parameter_expressions, parameter_scopes, property_expressions, read_lines, scoped, scopes_of}
 use Rattle.just_parts.specs.Known.{none_hidden}
 use Rattle.just_parts.specs.Syntax.{SyntaxAnswers}
 use Rattle.just_recipe.specs.declared.dependency.Dependency.{Dependency}
@@ -32,7 +32,7 @@ use Rattle.just_recipe.specs.Script.{is_script, is_shell, says_shell}
 use Rattle.just_recipe.specs.declared.dependency.DependencyArgument.{DependencyArgument}
 use Rattle.just_recipe.specs.declared.dependency.UnresolvedDependency.{UnresolvedDependency}
 use Rattle.just_recipe.specs.declared.recipe.Recipe.{Recipe}
-use Rattle.just_recipe_names.specs.Numbered.{attribute_by, dependency_by, fragment_by, given_by, line_by, attribute_with, numbered_body, numbered_parameters, parameter_by, property_by, shell_lines_by, under}
+use Rattle.just_recipe_names.specs.Numbered.{attribute_by, dependency_by, fragment_by, given_by, line_by, attribute_with, numbered_body, numbered_parameters, parameter_by, property_by, shell_lines_by, under_parameters}
 use Rattle.just_justfile.specs.Running.{TellsBareLines, arguments_of, bare_fragment, bare_line}
 use Rattle.just_recipe_values.specs.Valued.{informed, valued_attribute, valued_named}
 
@@ -173,7 +173,7 @@ by_texts (p ∷ ps) name = ap (λ (b : Bool). bytes_eq (text_of_name p.name) nam
 hidden_alike : (ps qs : List Parameter) → texts ps ≡ texts qs → is_parameter ps ≡ is_parameter qs
 hidden_alike ps qs same = λ i name. (by_texts ps name ∙ ap (λ (ts : List Text). list_any (λ (t : Text). bytes_eq t name) ts) same ∙ sym (by_texts qs name)) i
 
-module _ (number : List Parameter → Text → Option Number) (attributes : List (NamedAttribute Expression)) (same : (ps : List Parameter) (e : Expression) → mentions (under number ps e) ≡ mentions e) where
+module _ (number : List Parameter → Text → Option Number) (attributes : List (NamedAttribute Expression)) (same : (ps : List Parameter) (e : Expression) → mentions (under_parameters number ps e) ≡ mentions e) where
   abbrev made_of : List Parameter → List Parameter → List Parameter
   made_of before ps = map (informed attributes) (numbered_parameters number before ps)
 
@@ -181,19 +181,19 @@ module _ (number : List Parameter → Text → Option Number) (attributes : List
   texts_made before [] = refl
   texts_made before (p ∷ ps) = ap (λ (ts : List Text). text_of_name p.name ∷ ts) (texts_made (before ++ p ∷ []) ps)
 
-  texts_more : (made before : List Parameter) (p : Parameter) → texts made ≡ texts before → texts (made ++ informed attributes (parameter_by (under number before) p) ∷ []) ≡ texts (before ++ p ∷ [])
+  texts_more : (made before : List Parameter) (p : Parameter) → texts made ≡ texts before → texts (made ++ informed attributes (parameter_by (under_parameters number before) p) ∷ []) ≡ texts (before ++ p ∷ [])
   texts_more made before p named =
-      map-append (λ (q : Parameter). text_of_name q.name) made (informed attributes (parameter_by (under number before) p) ∷ []) ∙ ap (λ (ts : List Text). ts ++ text_of_name p.name ∷ []) named ∙ sym (map-append (λ (q : Parameter). text_of_name q.name) before (p ∷ []))
+      map-append (λ (q : Parameter). text_of_name q.name) made (informed attributes (parameter_by (under_parameters number before) p) ∷ []) ∙ ap (λ (ts : List Text). ts ++ text_of_name p.name ∷ []) named ∙ sym (map-append (λ (q : Parameter). text_of_name q.name) before (p ∷ []))
 
-  parameter_alike : (before : List Parameter) (p : Parameter) → map mentions (parameter_expressions (informed attributes (parameter_by (under number before) p))) ≡ map mentions (parameter_expressions p)
+  parameter_alike : (before : List Parameter) (p : Parameter) → map mentions (parameter_expressions (informed attributes (parameter_by (under_parameters number before) p))) ≡ map mentions (parameter_expressions p)
   parameter_alike before p =
-      both_alike mentions (option_to_list (option_map (under number before) p.default)) (option_to_list (option_map (under number before) p.value)) (option_to_list p.default) (option_to_list p.value)
-      (option_alike (under number before) (same before) p.default) (option_alike (under number before) (same before) p.value)
+      both_alike mentions (option_to_list (option_map (under_parameters number before) p.default)) (option_to_list (option_map (under_parameters number before) p.value)) (option_to_list p.default) (option_to_list p.value)
+      (option_alike (under_parameters number before) (same before) p.default) (option_alike (under_parameters number before) (same before) p.value)
 
   parameters_alike : (made before ps : List Parameter) → texts made ≡ texts before → map seen (parameter_scopes made (made_of before ps)) ≡ map seen (parameter_scopes before ps)
   parameters_alike made before [] named = refl
   parameters_alike made before (p ∷ ps) named =
-      let q : Parameter = informed attributes (parameter_by (under number before) p) in
+      let q : Parameter = informed attributes (parameter_by (under_parameters number before) p) in
       both_alike seen (map (scoped (is_parameter made)) (parameter_expressions q)) (parameter_scopes (made ++ q ∷ []) (made_of (before ++ p ∷ []) ps)) (map (scoped (is_parameter before)) (parameter_expressions p)) (parameter_scopes (before ++ p ∷ []) ps)
       (seen_alike (is_parameter made) (is_parameter before) (parameter_expressions q) (parameter_expressions p) (hidden_alike made before named) (parameter_alike before p))
       (parameters_alike (made ++ q ∷ []) (before ++ p ∷ []) ps (texts_more made before p named))
@@ -239,17 +239,17 @@ module _ (by : Expression → Expression) (same : (e : Expression) → mentions 
 
 -- A recipe that is made of a source: its attributes, parameters and lines with numbers and values, and its arguments whole.
 pub record IsNumberedOf (answers : SyntaxAnswers) (settings : Settings) (value : Expression → Option (List Text)) (number : List Parameter → Text → Option Number) (source : Recipe UnresolvedDependency) (made : Recipe Dependency) : Type 0 where
-  pub attributes : made.attributes ≡ all_changed value (under number []) (under number source.parameters) source.attributes
-  pub parameters : made.parameters ≡ map (informed (all_changed value (under number []) (under number source.parameters) source.attributes)) (numbered_parameters number [] source.parameters)
+  pub attributes : made.attributes ≡ all_changed value (under_parameters number []) (under_parameters number source.parameters) source.attributes
+  pub parameters : made.parameters ≡ map (informed (all_changed value (under_parameters number []) (under_parameters number source.parameters) source.attributes)) (numbered_parameters number [] source.parameters)
   pub body : made.body ≡ numbered_body number answers settings source
   pub shebang : made.shebang ≡ source.shebang
-  pub dependencies : AllZip (λ (d : UnresolvedDependency) (m : Dependency). arguments_of m ≡ d.arguments) (map (dependency_by (under number source.parameters)) source.dependencies) made.dependencies
+  pub dependencies : AllZip (λ (d : UnresolvedDependency) (m : Dependency). arguments_of m ≡ d.arguments) (map (dependency_by (under_parameters number source.parameters)) source.dependencies) made.dependencies
 
 module _ (answers : SyntaxAnswers) (tells : TellsBareLines answers) (settings : Settings) (value : Expression → Option (List Text)) (number : List Parameter → Text → Option Number) (source : Recipe UnresolvedDependency) (made : Recipe Dependency) (is : IsNumberedOf answers settings value number source made) where
   abbrev by : Expression → Expression
-  by = under number source.parameters
+  by = under_parameters number source.parameters
 
-  outer_same : (e : Expression) → mentions (under number [] e) ≡ mentions e
+  outer_same : (e : Expression) → mentions (under_parameters number [] e) ≡ mentions e
   outer_same = keeps_mentions (number [])
 
   by_same : (e : Expression) → mentions (by e) ≡ mentions e
@@ -261,14 +261,14 @@ module _ (answers : SyntaxAnswers) (tells : TellsBareLines answers) (settings : 
   continuations : (line : Line) → answers.is_continuation (line_by by line) ≡ answers.is_continuation line
   continuations line = sym (tells.continuations (line_by by line)) ∙ ap answers.is_continuation (line_bare (number source.parameters) line) ∙ tells.continuations line
 
-  attributes_alike : (has : Attribute Expression → List Expression) → ((a : Attribute Expression) → map mentions (has (changed value (under number []) by a)) ≡ map mentions (has a))
-      → map mentions (of_attributes has made) ≡ map mentions (of_attributes has source)
+  attributes_alike : (has : Attribute Expression → List Expression) → ((a : Attribute Expression) → map mentions (has (changed value (under_parameters number []) by a)) ≡ map mentions (has a))
+      → map mentions (expressions_in_attributes has made) ≡ map mentions (expressions_in_attributes has source)
   attributes_alike has same =
       ap (λ (all : List (NamedAttribute Expression)). map mentions (flat_map (λ (named : NamedAttribute Expression). has named.attribute) all)) is.attributes
-      ∙ all_alike value (under number []) by outer_same by_same has same source.attributes
+      ∙ all_alike value (under_parameters number []) by outer_same by_same has same source.attributes
 
   script_alike : is_script made settings ≡ is_script source settings
-  script_alike = λ i. not ((ap (list_any is_shell) is.attributes ∙ shells_said value (under number []) by outer_same by_same source.attributes) i) && (is.shebang i || settings.default_script)
+  script_alike = λ i. not ((ap (list_any is_shell) is.attributes ∙ shells_said value (under_parameters number []) by outer_same by_same source.attributes) i) && (is.shebang i || settings.default_script)
 
   -- all lines of a script, or those that are read
   abbrev body_by : Bool → List Line
@@ -285,9 +285,9 @@ module _ (answers : SyntaxAnswers) (tells : TellsBareLines answers) (settings : 
   arguments_alike = ap (map mentions) (whole_alike (map (dependency_by by) source.dependencies) made.dependencies is.dependencies) ∙ dependencies_alike by by_same source.dependencies
 
   abbrev told : List (NamedAttribute Expression)
-  told = all_changed value (under number []) by source.attributes
+  told = all_changed value (under_parameters number []) by source.attributes
 
-  same_under : (ps : List Parameter) (e : Expression) → mentions (under number ps e) ≡ mentions e
+  same_under : (ps : List Parameter) (e : Expression) → mentions (under_parameters number ps e) ≡ mentions e
   same_under ps = keeps_mentions (number ps)
 
   abbrev numbered : List Parameter
@@ -300,24 +300,24 @@ module _ (answers : SyntaxAnswers) (tells : TellsBareLines answers) (settings : 
   scopes_of_parameters = ap (λ (ps : List Parameter). map seen (parameter_scopes [] ps)) is.parameters ∙ parameters_alike number told same_under [] [] source.parameters refl
 
   -- what is evaluated where no parameter is known, and where all are
-  outer_alike : map mentions (of_attributes compiled_expressions made ++ of_attributes environment_expressions made) ≡ map mentions (of_attributes compiled_expressions source ++ of_attributes environment_expressions source)
+  outer_alike : map mentions (expressions_in_attributes compiled_expressions made ++ expressions_in_attributes environment_expressions made) ≡ map mentions (expressions_in_attributes compiled_expressions source ++ expressions_in_attributes environment_expressions source)
   outer_alike =
-      both_alike mentions (of_attributes compiled_expressions made) (of_attributes environment_expressions made) (of_attributes compiled_expressions source) (of_attributes environment_expressions source)
-      (attributes_alike compiled_expressions (compiled_alike value (under number []) by outer_same by_same)) (attributes_alike environment_expressions (environment_alike value (under number []) by outer_same by_same))
+      both_alike mentions (expressions_in_attributes compiled_expressions made) (expressions_in_attributes environment_expressions made) (expressions_in_attributes compiled_expressions source) (expressions_in_attributes environment_expressions source)
+      (attributes_alike compiled_expressions (compiled_alike value (under_parameters number []) by outer_same by_same)) (attributes_alike environment_expressions (environment_alike value (under_parameters number []) by outer_same by_same))
 
   inner_alike : map mentions (inner_expressions arguments_of answers settings made) ≡ map mentions (inner_expressions (λ (d : UnresolvedDependency). d.arguments) answers settings source)
   inner_alike =
       let lines = flat_map line_expressions (lines_read answers settings made) in
       let read = flat_map line_expressions (lines_read answers settings source) in
-      both_alike mentions (of_attributes attribute_expressions made) (lines ++ flat_map linked_of made.dependencies) (of_attributes attribute_expressions source) (read ++ flat_map written_of source.dependencies)
-      (attributes_alike attribute_expressions (attribute_alike value (under number []) by outer_same by_same))
+      both_alike mentions (expressions_in_attributes attribute_expressions made) (lines ++ flat_map linked_of made.dependencies) (expressions_in_attributes attribute_expressions source) (read ++ flat_map written_of source.dependencies)
+      (attributes_alike attribute_expressions (attribute_alike value (under_parameters number []) by outer_same by_same))
       (both_alike mentions lines (flat_map linked_of made.dependencies) read (flat_map written_of source.dependencies) body_alike arguments_alike)
 
   -- so in its scopes there is what is in those of its source
   pub scopes_alike : map seen (scopes_of arguments_of answers settings made) ≡ map seen (scopes_of (λ (d : UnresolvedDependency). d.arguments) answers settings source)
   scopes_alike =
-      let outer = of_attributes compiled_expressions made ++ of_attributes environment_expressions made in
-      let first = of_attributes compiled_expressions source ++ of_attributes environment_expressions source in
+      let outer = expressions_in_attributes compiled_expressions made ++ expressions_in_attributes environment_expressions made in
+      let first = expressions_in_attributes compiled_expressions source ++ expressions_in_attributes environment_expressions source in
       let inner = inner_expressions arguments_of answers settings made in
       let last = inner_expressions (λ (d : UnresolvedDependency). d.arguments) answers settings source in
       both_alike seen (map (scoped none_hidden) outer) (parameter_scopes [] made.parameters ++ map (scoped (is_parameter made.parameters)) inner) (map (scoped none_hidden) first) (parameter_scopes [] source.parameters ++ map (scoped (is_parameter source.parameters)) last)

@@ -14,8 +14,8 @@ use Rattle.just_ast_definitions.specs.declared.alias.Alias.{Alias}
 use Rattle.just_justfile.specs.Walks.{only, path_along}
 use Rattle.just_justfile.specs.declared.aliases.Aliases.{Aliases}
 use Rattle.just_module_aliases.specs.Aliased.{no_aliases, with_meaning}
-use Rattle.just_module_aliases.specs.declared.aliases.Meaning.{Meaning}
-use Rattle.just_module_aliases.specs.declared.aliases.Meaning.TheVariants as meaning
+use Rattle.just_module_aliases.specs.declared.aliases.AliasMeaning.{AliasMeaning}
+use Rattle.just_module_aliases.specs.declared.aliases.AliasMeaning.TheVariants as meaning
 use Rattle.just_paths.specs.declared.modulepath.Modulepath.{Modulepath}
 use Rattle.just_justfile.specs.declared.justfile.Justfile.{Justfile, out-Justfile}
 use Rattle.just_compiled.specs.Analysis.{HasDefault, IsOf, completion_of}
@@ -37,7 +37,7 @@ use Rattle.just_module_headers.specs.Reading.{Submodule, items_in}
 use Rattle.just_module_contents.specs.Standing.{AreStanding}
 use Rattle.just_justfile.specs.Module.{module_name}
 use Rattle.just_module_recipes.specs.Linked.{AreLinked, HasDisabled}
-use Rattle.just_module_tree.specs.Standing.{DisabledBy, In, Missing, Nowhere, StandsInTree, follow, leads, name_in}
+use Rattle.just_module_tree.specs.Standing.{DisabledBy, InModule, Missing, Nowhere, StandsInTree, follow, leads, name_in}
 use Rattle.just_names.specs.Index.{AreDifferent}
 use Rattle.just_names.specs.Name.{text_of_name, texts_of_path}
 use Rattle.just_names.specs.declared.name.Namepath.{Namepath}
@@ -94,27 +94,27 @@ value_by given asts m it = value_among given.evaluator (contents_read given.synt
 pub record HasNumberIn (given : Given) (asts : AstKey → Option Ast) (m : Module) (inside : Forest) (path : Namepath) (number : Number) : Type 0 where
   pub to : Module
   pub below : Forest
-  pub leads_in : leads m inside path ≡ In to below
+  pub leads_in : leads m inside path ≡ InModule to below
   pub place : ℕ
   pub there : place < length (kept_by given asts to)
   pub named : name_of (recipe_at (kept_by given asts to) place) ≡ text_of_name path.last
   pub number_is : (recipe_at (kept_by given asts to) place).number ≡ number
 
 -- What a path means from a module as the target of an alias: the module to which it leads; what is disabled where it leads to or through one without a file; or where it leads to no module the kept recipe to which it leads, by its number where that stands, and else with exactly the paths that disable it.
-pub data MeansIn (given : Given) (asts : AstKey → Option Ast) (m : Module) (inside : Forest) (path : Namepath) : Meaning → Type 0 where
-  a_module : (n : Module) (below : Forest) → follow (texts_of_path path) m inside ≡ In n below → MeansIn given asts m inside path (meaning.Module (path_of n))
+pub data MeansIn (given : Given) (asts : AstKey → Option Ast) (m : Module) (inside : Forest) (path : Namepath) : AliasMeaning → Type 0 where
+  a_module : (n : Module) (below : Forest) → follow (texts_of_path path) m inside ≡ InModule n below → MeansIn given asts m inside path (meaning.Module (path_of n))
   missing : (names : List Text) → follow (texts_of_path path) m inside ≡ Missing names → MeansIn given asts m inside path (meaning.Disabled (only (path_along names)))
   a_recipe : {number : Number} (h : HasNumberIn given asts m inside path number) → follow (texts_of_path path) m inside ≡ Nowhere → StandsInTree h.to h.below (text_of_name path.last) → MeansIn given asts m inside path (meaning.Recipe number)
-  a_disabled : {set : BTreeSet Modulepath} (n : Module) (below : Forest) → follow (texts_of_path path) m inside ≡ Nowhere → leads m inside path ≡ In n below → set.keys ≢ []
+  a_disabled : {set : BTreeSet Modulepath} (n : Module) (below : Forest) → follow (texts_of_path path) m inside ≡ Nowhere → leads m inside path ≡ InModule n below → set.keys ≢ []
       → ((by : Modulepath) → Contains set.keys by ↔ DisabledBy n below (text_of_name path.last) by) → MeansIn given asts m inside path (meaning.Disabled set)
 
 -- Tables with aliases behind those before, each in the table of its meaning under its name.
-pub data AddAliases (Means : Namepath → Meaning → Type 0) : Aliases → List (Alias Namepath) → Aliases → Type 0 where
+pub data AddAliases (Means : Namepath → AliasMeaning → Type 0) : Aliases → List (Alias Namepath) → Aliases → Type 0 where
   no_more : {tables : Aliases} → AddAliases Means tables [] tables
-  one_more : {before after : Aliases} {alias : Alias Namepath} {aliases : List (Alias Namepath)} {it : Meaning} → Means alias.target it → AddAliases Means (with_meaning before alias it) aliases after → AddAliases Means before (alias ∷ aliases) after
+  one_more : {before after : Aliases} {alias : Alias Namepath} {aliases : List (Alias Namepath)} {it : AliasMeaning} → Means alias.target it → AddAliases Means (with_meaning before alias it) aliases after → AddAliases Means before (alias ∷ aliases) after
 
 -- the tables of aliases and of nothing else
-abbrev pub AreAliased : (Namepath → Meaning → Type 0) → List (Alias Namepath) → Aliases → Type 0
+abbrev pub AreAliased : (Namepath → AliasMeaning → Type 0) → List (Alias Namepath) → Aliases → Type 0
 AreAliased Means = AddAliases Means no_aliases
 
 -- What a module is compiled to, of all recipes: its recipes that nothing disables, linked, the others with what disables them, what is evaluated of it, and its justfile, with the modules in it, which have the labels of their declarations.

@@ -8,7 +8,7 @@ use Rattle.std.proofs.lemmas.List.Elements.{All-contains, Contains-get_or}
 use Rattle.std.proofs.lemmas.Option.{get_or_from_slice_get, slice_get_within}
 use Rattle.just_graph.specs.Graph.{HasEdge, targets}
 use Rattle.just_graph.specs.Steps.{Reached, from_member, from_start, in_take}
-use Rattle.just_graph.specs.Unfolded.{AreApart}
+use Rattle.just_graph.specs.Unfolded.{AreDistinct}
 use Rattle.just_graph.proofs.Index.{get_map}
 use Rattle.just_graph.proofs.Members.{In, contained, from_flat, from_map, is_in}
 use Rattle.just_parts.specs.Asts.{AstKey, same_ast_key}
@@ -231,7 +231,7 @@ module _ (given : Given) (entries : List (AstKey × Ast)) (d : AstKey) (files : 
             let x = get_map (λ q. (key_at q, so.made q)) order i b (ap (λ xs. slice_get (map (λ q. (key_at q, so.made q)) xs) i) (sym (take_all (length order) order (omega arith))) ∙ e) in
             (slice_get_within order i x.0 x.1, x.2 ∙ ap (λ q. (key_at q, so.made q)) (sym (get_or_from_slice_get order i x.0 0 x.1)))
 
-        once : AreApart (map (λ (b : Built). b.0) built)
+        once : AreDistinct (map (λ (b : Built). b.0) built)
         once i j k a b =
             let x = get_map (λ (b : Built). b.0) built i k a in
             let y = get_map (λ (b : Built). b.0) built j k b in

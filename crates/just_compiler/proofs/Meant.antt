@@ -19,7 +19,7 @@ use Rattle.std.proofs.lemmas.Slice.Eq.{bytes_eq-Decides}
 use Rattle.just_ast_definitions.specs.declared.assignment.Assignment.{Assignment}
 use Rattle.just_graph.proofs.Index.{map_get, some_same}
 use Rattle.just_graph.proofs.Members.{In, contained, from_flat, from_map, in_flat, is_in}
-use Rattle.just_graph.specs.Unfolded.{AreApart}
+use Rattle.just_graph.specs.Unfolded.{AreDistinct}
 use Rattle.just_justfile.proofs.Returning.{found_by_path}
 use Rattle.just_justfile.specs.Closed.{AreClosed, StandsIn}
 use Rattle.just_justfile.specs.Walks.{inner_along, module_named}
@@ -168,7 +168,7 @@ walks_on root [] j k e = e
 walks_on root (name ∷ names) j k e = walks_next root name names j k (λ inner. walks_on root names inner k) (module_named name (out-Justfile j).modules) refl e
 
 -- what is built under a key is built once
-pub built_once : (built : List Built) → AreApart (map (λ (b : Built). b.0) built) → (k : AstKey) (a b : Made) → Contains built (k, a) → Contains built (k, b) → a ≡ b
+pub built_once : (built : List Built) → AreDistinct (map (λ (b : Built). b.0) built) → (k : AstKey) (a b : Made) → Contains built (k, a) → Contains built (k, b) → a ≡ b
 built_once built apart k a b x y =
     let keys = λ (n : ℕ) (m : Made) (c : slice_get built n ≡ Some (k, m)). map_get (λ (z : Built). z.0) built n (k, m) c in
     let got_a : slice_get built x.0 ≡ Some (k, a) = slice_get-get_or built x.0 (k, a) x.1 ∙ ap Some x.2 in

@@ -6,7 +6,7 @@ use Rattle.std.proofs.lemmas.List.Elements.{All-contains}
 use Rattle.just_graph.proofs.Leveling.{Once}
 use Rattle.just_graph.proofs.Members.{In, contained, from_flat, from_map, in_flat, all_in}
 use Rattle.just_parts.specs.Bare.{bare_item}
-use Rattle.just_parts.specs.Syntax.{AreRising, PriorsAreDependencies, item_numbers, numbers, function_numbers, parameter_numbers}
+use Rattle.just_parts.specs.Syntax.{AreRising, PriorsAreDependencies, item_numbers, numbers_of_items, function_numbers, parameter_numbers}
 use Rattle.just_parts.specs.Items.{Item}
 use Rattle.just_ast_items.specs.declared.item.Item.TheVariants as item
 use Rattle.just_recipe.specs.declared.dependency.UnresolvedDependency.{UnresolvedDependency}
@@ -29,10 +29,10 @@ recipe_item enabled r (item.Recipe q ∷ is) h = elim (from_if (enabled (bare_it
 recipe_item enabled r (_ ∷ is) h = inr (recipe_item enabled r is h)
 
 -- its number is one of theirs
-pub recipe_number_in : (enabled : Item → Bool) (x : ℕ) (is : List Item) → In x (unresolved_numbers (recipes_of enabled is)) → In x (numbers is)
+pub recipe_number_in : (enabled : Item → Bool) (x : ℕ) (is : List Item) → In x (unresolved_numbers (recipes_of enabled is)) → In x (numbers_of_items is)
 recipe_number_in enabled x is h =
     let r = from_map (λ (r : Recipe UnresolvedDependency). r.number.0) x (recipes_of enabled is) h in
-    subst (λ n. In n (numbers is)) (sym r.2) (in_flat item_numbers r.0.number.0 (item.Recipe r.0) is (recipe_item enabled r.0 is r.1) (inl refl))
+    subst (λ n. In n (numbers_of_items is)) (sym r.2) (in_flat item_numbers r.0.number.0 (item.Recipe r.0) is (recipe_item enabled r.0 is r.1) (inl refl))
 
 -- rising numbers are at least the first bound
 rising_from : (low : ℕ) (ns : List ℕ) (high x : ℕ) → AreRising low ns high → In x ns → low ≤ x
@@ -50,16 +50,16 @@ once_if true r rs fresh once = (fresh, once)
 once_if false r rs fresh once = once
 
 -- recipes of rising items have no number twice
-pub once_recipes : (enabled : Item → Bool) (low : ℕ) (is : List Item) (high : ℕ) → AreRising low (numbers is) high → Once (unresolved_numbers (recipes_of enabled is))
+pub once_recipes : (enabled : Item → Bool) (low : ℕ) (is : List Item) (high : ℕ) → AreRising low (numbers_of_items is) high → Once (unresolved_numbers (recipes_of enabled is))
 once_recipes enabled low [] high r = tt
 once_recipes enabled low (item.Recipe q ∷ is) high r =
-    let after = rising_after (q.number.0 + 1) (parameter_numbers q.parameters) (numbers is) high r.1 in
+    let after = rising_after (q.number.0 + 1) (parameter_numbers q.parameters) (numbers_of_items is) high r.1 in
     once_if (enabled (bare_item (item.Recipe q))) q (recipes_of enabled is)
-    (λ h. let l : after.0 ≤ q.number.0 = rising_from after.0 (numbers is) high q.number.0 after.2 (recipe_number_in enabled q.number.0 is h) in absurd (omega (arith, l, after.1)))
+    (λ h. let l : after.0 ≤ q.number.0 = rising_from after.0 (numbers_of_items is) high q.number.0 after.2 (recipe_number_in enabled q.number.0 is h) in absurd (omega (arith, l, after.1)))
     (once_recipes enabled after.0 is high after.2)
 once_recipes enabled low (item.Assignment a ∷ is) high r = once_recipes enabled (a.number.0 + 1) is high r.1
 once_recipes enabled low (item.Function f ∷ is) high r =
-    let after = rising_after low (function_numbers f) (numbers is) high r in once_recipes enabled after.0 is high after.2
+    let after = rising_after low (function_numbers f) (numbers_of_items is) high r in once_recipes enabled after.0 is high after.2
 once_recipes enabled low (_ ∷ is) high r = once_recipes enabled low is high r
 
 -- recipes have no more priors than dependencies, where items have
@@ -73,12 +73,12 @@ variable_if true _ a h = absurd h
 variable_if false i a h = absurd h
 
 -- the number of a variable of items is one of theirs
-pub variable_number_in : (enabled : Item → Bool) (x : ℕ) (is : List Item) → In x (assignment_numbers (said variable_by enabled is)) → In x (numbers is)
+pub variable_number_in : (enabled : Item → Bool) (x : ℕ) (is : List Item) → In x (assignment_numbers (said variable_by enabled is)) → In x (numbers_of_items is)
 variable_number_in enabled x is h =
     let a = from_map (λ (a : Assignment). a.number.0) x (said variable_by enabled is) h in
     let i = from_flat (λ (i : Item). if enabled (bare_item i) then variable_by i else []) a.0 is a.1 in
     let e = variable_if (enabled (bare_item i.0)) i.0 a.0 i.2 in
-    subst (λ n. In n (numbers is)) (sym a.2) (in_flat item_numbers a.0.number.0 (item.Assignment a.0) is (subst (λ (j : Item). In j is) e i.1) (inl refl))
+    subst (λ n. In n (numbers_of_items is)) (sym a.2) (in_flat item_numbers a.0.number.0 (item.Assignment a.0) is (subst (λ (j : Item). In j is) e i.1) (inl refl))
 
 once_variable : (b : Bool) (a : Assignment) (vs : List Assignment) → (In a.number.0 (assignment_numbers vs) → ⊥) → Once (assignment_numbers vs) → Once (assignment_numbers ((if b then a ∷ [] else []) ++ vs))
 once_variable true a vs fresh once = (fresh, once)
@@ -89,15 +89,15 @@ no_variable true i vs none once = subst (λ xs. Once (assignment_numbers (xs ++ 
 no_variable false i vs none once = once
 
 -- variables of rising items have no number twice
-pub once_variables : (enabled : Item → Bool) (low : ℕ) (is : List Item) (high : ℕ) → AreRising low (numbers is) high → Once (assignment_numbers (said variable_by enabled is))
+pub once_variables : (enabled : Item → Bool) (low : ℕ) (is : List Item) (high : ℕ) → AreRising low (numbers_of_items is) high → Once (assignment_numbers (said variable_by enabled is))
 once_variables enabled low [] high r = tt
 once_variables enabled low (item.Assignment a ∷ is) high r =
     once_variable (enabled (bare_item (item.Assignment a))) a (said variable_by enabled is)
-    (λ h. let l : a.number.0 + 1 ≤ a.number.0 = rising_from (a.number.0 + 1) (numbers is) high a.number.0 r.1 (variable_number_in enabled a.number.0 is h) in absurd (omega (arith, l)))
+    (λ h. let l : a.number.0 + 1 ≤ a.number.0 = rising_from (a.number.0 + 1) (numbers_of_items is) high a.number.0 r.1 (variable_number_in enabled a.number.0 is h) in absurd (omega (arith, l)))
     (once_variables enabled (a.number.0 + 1) is high r.1)
 once_variables enabled low (item.Recipe q ∷ is) high r =
-    let after = rising_after (q.number.0 + 1) (parameter_numbers q.parameters) (numbers is) high r.1 in
+    let after = rising_after (q.number.0 + 1) (parameter_numbers q.parameters) (numbers_of_items is) high r.1 in
     no_variable (enabled (bare_item (item.Recipe q))) (item.Recipe q) (said variable_by enabled is) refl (once_variables enabled after.0 is high after.2)
 once_variables enabled low (item.Function f ∷ is) high r =
-    let after = rising_after low (function_numbers f) (numbers is) high r in no_variable (enabled (bare_item (item.Function f))) (item.Function f) (said variable_by enabled is) refl (once_variables enabled after.0 is high after.2)
+    let after = rising_after low (function_numbers f) (numbers_of_items is) high r in no_variable (enabled (bare_item (item.Function f))) (item.Function f) (said variable_by enabled is) refl (once_variables enabled after.0 is high after.2)
 once_variables enabled low (i ∷ is) high r = no_variable (enabled (bare_item i)) i (said variable_by enabled is) refl (once_variables enabled low is high r)

@@ -23,7 +23,7 @@ use Rattle.just_module_recipes.specs.Links.{Around}
 use Rattle.just_module_variables.specs.Constants.{CoversAll}
 use Rattle.just_module_variables.specs.Variables.{AreVariablesOf}
 use Rattle.just_module_variables.specs.declared.variables.Variables.{Variables}
-use Rattle.just_parts.specs.Evaluator.{Covers, Values, values_of}
+use Rattle.just_parts.specs.Evaluator.{Covers, Values, scope_values}
 use Rattle.just_parts.specs.Known.{sources}
 use Rattle.just_parts.specs.Layers.{Layers}
 use Rattle.just_recipe.specs.declared.dependency.UnresolvedDependency.{UnresolvedDependency}
@@ -57,7 +57,7 @@ module _ (variables : Variables) (values : Values) (m : Contents) (covered : Cov
 -- what is told of links is told of the module
 module _ (layers : Layers) (checked : Checked) (it : Around) (are : AreVariablesOf layers.syntax (contents_in checked.definitions) checked.variables) (bodies : Keeps (BreaksBodies layers.syntax checked.constants.settings (contents_in checked.definitions))) where
   abbrev values : Values
-  values = values_of checked.constants.scope
+  values = scope_values checked.constants.scope
 
   abbrev tells : Recipe UnresolvedDependency → Cause → Type 0
   tells r c = rule_here layers.syntax layers.evaluator (contents_in checked.definitions) checked.variables are values checked.constants.settings r c

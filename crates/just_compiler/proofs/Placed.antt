@@ -5,7 +5,7 @@ use Rattle.std.specs.List.{Contains}
 use Rattle.std.specs.HashMap.{get}
 use Rattle.just_module_variables.specs.Constants.{CoversAll, evaluated_in}
 use Rattle.just_module_contents.specs.Constants.{constant_expressions}
-use Rattle.just_parts.specs.Evaluator.{values_of}
+use Rattle.just_parts.specs.Evaluator.{scope_values}
 use Rattle.just_compiler.specs.loops.Parts.{IsCheckedCovered}
 use Rattle.just_module_variables.specs.Documented.{AreDocumented}
 use Rattle.just_module_variables.specs.Variables.{AreVariablesOf, HasNumbers}
@@ -90,7 +90,7 @@ module _ (given : Given) (files : Files) (joined : Joined) (p : ℕ) (row : List
     variables_resolved = subst (λ n. AreVariablesOf given.syntax n it.variables) (sym is.contents) is.constants.resolved
 
     pub is_covered : IsCheckedCovered it
-    is_covered = subst (λ (n : Contents). CoversAll it.variables (values_of it.constants.scope) (constant_expressions n)) (sym is.contents) is.constants.covered
+    is_covered = subst (λ (n : Contents). CoversAll it.variables (scope_values it.constants.scope) (constant_expressions n)) (sym is.contents) is.constants.covered
 
     pub numbers_told : HasNumbers it.variables
     numbers_told = is.constants.numbers

@@ -14,7 +14,7 @@ use Rattle.just_paths.specs.Clean.{folder_of}
 use Rattle.just_ast_items.specs.Edge.{absolute_of}
 use Rattle.just_parts.specs.Located.{located_item, with_depth}
 use Rattle.just_names.specs.Texts.{Text}
-use Rattle.just_parts.specs.Syntax.{numbers}
+use Rattle.just_parts.specs.Syntax.{numbers_of_items}
 use Rattle.just_parts.specs.Items.{Ast, Item}
 use Rattle.just_ast_items.specs.declared.item.Item.TheVariants as item
 use Rattle.just_paths.specs.declared.modulepath.Modulepath.{Modulepath}
@@ -28,7 +28,7 @@ use Rattle.just_loader.proofs.HeldKeys.{closed, held_key, held_path, key_held, p
 use Rattle.just_module_headers.specs.Analyzable.{AreAnalyzable, assignment_numbers}
 use Rattle.just_module_contents.specs.Named.{variable_by, lists_by}
 use Rattle.just_module_contents.specs.Said.{said as said_of}
-use Rattle.just_module_headers.specs.Files.{led}
+use Rattle.just_module_headers.specs.Files.{keys_led_to}
 use Rattle.just_module_contents.specs.Recipes.{recipes_of}
 use Rattle.just_module_headers.specs.Reading.{Reading, ast_of_both, enabled_items, located_ast, reading_of}
 use Rattle.just_module_contents.specs.Resolved.{unresolved_numbers}
@@ -37,7 +37,7 @@ use Rattle.just_compiler.specs.Readings.{IsReadingOf, items_read, lists_at}
 use Rattle.just_compiler.proofs.Numbers.{once_recipes, once_variables, recipe_number_in, recipe_priors, variable_number_in}
 
 -- an item that leads to a key has the path of its file
-led_by_path : (inside : Bool) (m : Modulepath) (i : Item) (l : AstKey) → In l (led inside m i) → (path : Text) × (absolute_of i ≡ Some path) × ((path_led m i, path) ≡ l)
+led_by_path : (inside : Bool) (m : Modulepath) (i : Item) (l : AstKey) → In l (keys_led_to inside m i) → (path : Text) × (absolute_of i ≡ Some path) × ((path_led m i, path) ≡ l)
 led_by_path true m (item.Module name relative None attributes doc optional) l h = absurd h
 led_by_path true m (item.Module name relative (Some file) attributes doc optional) l (inl e) = (file, refl, sym e)
 led_by_path true m (item.Module name relative (Some file) attributes doc optional) l (inr h) = absurd h
@@ -75,9 +75,9 @@ module _ (w : World) (asts : AstKey → Option Ast) (loaded : List Text) (is : I
   abbrev enabled : Item → Bool
   enabled = w.answers.enabled
 
-  can_close : (k : AstKey) (ast : Ast) (i : Item) (inside : Bool) (l : AstKey) → asts k ≡ Some ast → Contains ast.items i → Contains (led inside ast.module_path i) l → IsSome (asts l)
+  can_close : (k : AstKey) (ast : Ast) (i : Item) (inside : Bool) (l : AstKey) → asts k ≡ Some ast → Contains ast.items i → Contains (keys_led_to inside ast.module_path i) l → IsSome (asts l)
   can_close k ast i inside l e c d =
-      let p = led_by_path inside ast.module_path i l (is_in l (led inside ast.module_path i) d) in
+      let p = led_by_path inside ast.module_path i l (is_in l (keys_led_to inside ast.module_path i) d) in
       let next = closed w asts loaded is k ast i p.0 e c p.1 in
       let key : (path_led k.0 i, p.0) ≡ l = ap (λ m. (path_led m i, p.0)) (sym (held_path w asts loaded is k ast e)) ∙ p.2 in
       subst (λ o. IsSome o) (sym (ap asts (sym key) ∙ next.1)) refl
@@ -88,8 +88,8 @@ module _ (w : World) (asts : AstKey → Option Ast) (loaded : List Text) (is : I
   apart : (k l : AstKey) (a b : Ast) (m : ℕ) → asts k ≡ Some a → asts l ≡ Some b → (k ≡ l → ⊥) → Contains (unresolved_numbers (recipes_of enabled a.items)) m → Contains (unresolved_numbers (recipes_of enabled b.items)) m → ⊥
   apart k l a b m held_a held_b other in_a in_b =
       is.numbers.apart k l a b m held_a held_b (false_from_ne_true (same_ast_key k l) (λ t. other ((key_same k l).0 t)))
-      (contained m (numbers a.items) (recipe_number_in enabled m a.items (is_in m (unresolved_numbers (recipes_of enabled a.items)) in_a)))
-      (contained m (numbers b.items) (recipe_number_in enabled m b.items (is_in m (unresolved_numbers (recipes_of enabled b.items)) in_b)))
+      (contained m (numbers_of_items a.items) (recipe_number_in enabled m a.items (is_in m (unresolved_numbers (recipes_of enabled a.items)) in_a)))
+      (contained m (numbers_of_items b.items) (recipe_number_in enabled m b.items (is_in m (unresolved_numbers (recipes_of enabled b.items)) in_b)))
 
   variables_once : (k : AstKey) (ast : Ast) → asts k ≡ Some ast → IsOnce (assignment_numbers (said_of variable_by enabled ast.items))
   variables_once k ast e = let r = is.numbers.rising k ast e in is_once (assignment_numbers (said_of variable_by enabled ast.items)) (once_variables enabled r.0 ast.items r.1 r.2)
@@ -97,8 +97,8 @@ module _ (w : World) (asts : AstKey → Option Ast) (loaded : List Text) (is : I
   variables_apart : (k l : AstKey) (a b : Ast) (m : ℕ) → asts k ≡ Some a → asts l ≡ Some b → (k ≡ l → ⊥) → Contains (assignment_numbers (said_of variable_by enabled a.items)) m → Contains (assignment_numbers (said_of variable_by enabled b.items)) m → ⊥
   variables_apart k l a b m held_a held_b other in_a in_b =
       is.numbers.apart k l a b m held_a held_b (false_from_ne_true (same_ast_key k l) (λ t. other ((key_same k l).0 t)))
-      (contained m (numbers a.items) (variable_number_in enabled m a.items (is_in m (assignment_numbers (said_of variable_by enabled a.items)) in_a)))
-      (contained m (numbers b.items) (variable_number_in enabled m b.items (is_in m (assignment_numbers (said_of variable_by enabled b.items)) in_b)))
+      (contained m (numbers_of_items a.items) (variable_number_in enabled m a.items (is_in m (assignment_numbers (said_of variable_by enabled a.items)) in_a)))
+      (contained m (numbers_of_items b.items) (variable_number_in enabled m b.items (is_in m (assignment_numbers (said_of variable_by enabled b.items)) in_b)))
 
   pub are_analyzable : AreAnalyzable enabled asts
   are_analyzable = record {

@@ -3,7 +3,7 @@ use Rattle.std.specs.Prelude.{◌≡◌, ◌<◌, ◌++◌, ℕ, List, [], ◌�
 use Rattle.std.specs.HashMap.{HashMap, get}
 use Rattle.std.specs.List.{All, Contains}
 use Rattle.just_names.specs.declared.number.Number.{Number}
-use Rattle.just_graph.specs.Unfolded.{AreApart}
+use Rattle.just_graph.specs.Unfolded.{AreDistinct}
 use Rattle.just_parts.specs.Asts.{AstKey, same_ast_key}
 use Rattle.just_errors.specs.Causes.{Reports}
 use Rattle.just_names.specs.Texts.{Text}
@@ -37,7 +37,7 @@ pub record IsAnalyzed (given : Given) (asts : AstKey → Option Ast) (loaded : L
   pub are_modules : AreModules (reading_of given.syntax.enabled asts) (top ∷ []) (Tree m inside Empty)
   pub kept : KeepsModules given (Tree m inside Empty)
   pub built : List Built
-  pub once : AreApart (map (λ (b : Built). b.0) built)
+  pub once : AreDistinct (map (λ (b : Built). b.0) built)
   pub after : ComeAfter built
   pub each : (b : Built) → Contains built b → (h : Heading) × IsHeading (reading_of given.syntax.enabled asts) top h × (h.key ≡ b.0)
   pub all : recipes ≡ recipes_of_all built

@@ -16,6 +16,6 @@ come_to (Ok x) = Ok x
 come_to (Err h) = Err (error_of h)
 
 -- a run without its value
-abbrev pub without : {A : Type 0} → Result A Halt → Result (Unit {0}) Halt
-without (Ok x) = Ok tt
-without (Err h) = Err h
+abbrev pub discard_value : {A : Type 0} → Result A Halt → Result (Unit {0}) Halt
+discard_value (Ok x) = Ok tt
+discard_value (Err h) = Err h

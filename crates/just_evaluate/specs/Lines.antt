@@ -6,7 +6,7 @@ use Rattle.just_ast_definitions.specs.declared.assignment.Assignment.{Assignment
 use Rattle.just_ast_expressions.specs.declared.scope.Scope.{Scope}
 use Rattle.just_names.specs.Name.{text_of_name}
 use Rattle.just_names.specs.Texts.{Text, joined}
-use Rattle.just_parts.specs.Evaluator.{values_of}
+use Rattle.just_parts.specs.Evaluator.{scope_values}
 use Rattle.just_parts.specs.declared.layers.config.EvaluateFormat.{EvaluateFormat}
 use Rattle.just_parts.specs.declared.layers.config.EvaluateFormat.TheVariants as format
 use Rattle.just_justfile.specs.declared.justfile.Justfile.{Justfile, out-Justfile}
@@ -14,7 +14,7 @@ use Rattle.just_evaluate.specs.Asked.{public_variables}
 
 -- a variable with the value to which a scope binds it
 abbrev pub bound_in : Scope → Assignment → Option (Assignment × List Text)
-bound_in scope a = option_map {U = Assignment × List Text} (λ value. (a, value)) (values_of scope (text_of_name a.name))
+bound_in scope a = option_map {U = Assignment × List Text} (λ value. (a, value)) (scope_values scope (text_of_name a.name))
 
 -- the variables of a module that are not private and that a scope binds, each with its value, in byte order of their names
 abbrev pub bound_variables : Scope → Justfile → List (Assignment × List Text)
@@ -74,5 +74,5 @@ lines_in displayed format all vs = flat_map (line_in displayed format all (name_
 
 -- What is written of a target in a scope: the value of its one variable, if it is bound there, and without a line end; or a line for each of the variables of its module that are not private and are bound.
 abbrev pub evaluated_text : (List Text → Text) → EvaluateFormat → Justfile → Option Assignment → Scope → Text
-evaluated_text displayed format j (Some variable) scope = option_map_or joined_value (values_of scope (text_of_name variable.name)) []
+evaluated_text displayed format j (Some variable) scope = option_map_or joined_value (scope_values scope (text_of_name variable.name)) []
 evaluated_text displayed format j None scope = lines_in displayed format (out-Justfile j).settings.export (bound_variables scope j)

@@ -4,7 +4,7 @@ ghost use Rattle.std.specs.HashMap.{get};
 ghost use Rattle.std.specs.List.{filter_map};
 ghost use Rattle.std.specs.Option.{option_copied};
 ghost use Rattle.std.specs.Str.{bytes_eq};
-ghost use Rattle.just_parts.specs.Evaluator.{values_of};
+ghost use Rattle.just_parts.specs.Evaluator.{scope_values};
 ghost use Rattle.just_evaluate.specs.loops.Bindings.{bound_behind};
 ghost use Rattle.just_evaluate.specs.Lines as spec;
 
@@ -25,7 +25,7 @@ pub(crate) fn value_of<'run, 'src>(
     scope: &'run Scope<'src>,
     name: &str,
 ) -> Option<&'run Sequence<Text>>
-    ensures { option_copied result ≡ values_of scope.now name.now }
+    ensures { option_copied result ≡ scope_values scope.now name.now }
 {
     for binding in scope.bindings.iter() {
         if binding.name.lexeme() == name {
@@ -40,7 +40,7 @@ fn values_by_name<'run, 'src>(
     alloc: Global,
     scope: &'run Scope<'src>,
 ) -> Result<HashMap<BorrowedText<'src>, &'run Sequence<Text>>, AllocError>
-    ensures { IfOk result (λ values. (name : _) → option_copied (get bytes_eq values name) ≡ values_of scope.now name) }
+    ensures { IfOk result (λ values. (name : _) → option_copied (get bytes_eq values name) ≡ scope_values scope.now name) }
 {
     let mut values = HashMap::new(alloc);
     for binding in scope.bindings.iter() {

@@ -17,7 +17,7 @@ use Rattle.just_run_layers.specs.declared.held.Held.{Held}
 use Rattle.just_run_layers.specs.Interactions.{Log, executed_in, Question, ToHost, Interaction, Return, and_then, HasTrace, logged}
 use Rattle.just_run_layers.proofs.InteractionLemmas.{took-gives, took-split}
 use Rattle.just_execution.specs.declared.pair.Pair.{Pair}
-use Rattle.just_execution.specs.Account.{AskedTask, OnceTables, Empty, Asked, Began, own, executions, AreIn, AreNamed, Complete, counts, HasAccount, SaysOfTables, of_recipe, at_path}
+use Rattle.just_execution.specs.Account.{AskedTask, OnceTables, NoMore, Asked, Began, own, executions, AreIn, AreNamed, Complete, counts, HasAccount, SaysOfTables, executed_by_recipe, at_path}
 use Rattle.just_execution.specs.Firsts.{has}
 use Rattle.just_execution.specs.TaskInteractions.{ask_steps, begin_steps, body_of, execute_at, follow_steps, interactions_of, run_in}
 use Rattle.just_execution.specs.declared.task.Task.{Task}
@@ -78,7 +78,7 @@ module _ (recipes : List (Recipe Dependency)) (of_task : TaskInteractions) (p : 
       bound ≤ n → AllBelow bound ts → Stands tops before done bound s ts →
       HasTrace p (all_steps (walk_steps of_task n) s ts) old new r → (u : OnceTables) × Accounts recipes tops before done bound s ts old new r u
   all-at n walk tops [] before done bound s old new r l b a t =
-      (Empty, gave recipes tops before done bound s s [] old new r refl a.table (sym (add-zero s.calls s.number)) (none-in done) t.0 t.1)
+      (NoMore, gave recipes tops before done bound s s [] old new r refl a.table (sym (add-zero s.calls s.number)) (none-in done) t.0 t.1)
   all-at n walk tops (x ∷ xs) before done bound s old new r l b a t =
       let low : x.pair.recipe < bound = All-head (λ (q : Task). q.pair.recipe < bound) x xs b in
       let rest : AllBelow bound xs = All-tail (λ (q : Task). q.pair.recipe < bound) x xs b in
@@ -100,7 +100,7 @@ module _ (recipes : List (Recipe Dependency)) (of_task : TaskInteractions) (p : 
   fresh-at : (n : ℕ) → WalkAt n → (ts : List Task) (calls : List ℕ) (old new : Log) (r : Result (List ℕ) Halt) → AllBelow n ts →
       HasTrace p (fresh_steps (walk_steps of_task n) ts calls) old new r → (u : OnceTables) × IsFresh recipes ts calls old new r u
   fresh-at n walk [] calls old new r b t = (
-    Empty,
+    NoMore,
     record {
       gained = gained-none recipes old new (ap executed_in t.0);
       fits = tt;
@@ -141,16 +141,16 @@ module _ (recipes : List (Recipe Dependency)) (of_task : TaskInteractions) (p : 
                   let low : AllBelow t.pair.recipe ss = named-below recipes t.pair.recipe (subsequent_dependencies recipes t.pair.recipe) ss (subsequents-before recipes t.pair.recipe ordered) named in
                   let inside : AllBelow n ss = All-weaker (λ (q : Task). q.pair.recipe < t.pair.recipe) (λ (q : Task). q.pair.recipe < n) (λ q h. omega arith) ss low in
                   let (v, c) = fresh-at n walk ss calls next new r inside last in
-                  (Began t ps ss v Empty, block-ran recipes tops before done t ps ss calls old next new r v i m d named (f.still ∙ g) c)
+                  (Began t ps ss v NoMore, block-ran recipes tops before done t ps ss calls old next new r v i m d named (f.still ∙ g) c)
               | inr (e, h, second) ↦
                   let f : GivesNamed themselves recipes (subsequent_dependencies recipes t.pair.recipe) mid new (Err e) = leaf.follow t held mid new (Err e) second in
-                  (Began t ps [] Empty Empty, block-broke recipes tops before done t ps calls old new r e i m d h (λ k. f.unfull (ap (λ x. Err x) k)) (f.still ∙ g))
+                  (Began t ps [] NoMore NoMore, block-broke recipes tops before done t ps calls old new r e i m d h (λ k. f.unfull (ap (λ x. Err x) k)) (f.still ∙ g))
             ]
         | inr (e, h, first) ↦
             let f : GivesExecuted recipes t old new (Err e) = leaf.execute t held old new (Err e) first in
             elim (f.broken e refl) [
-              | inl g ↦ (Began t ps [] Empty Empty, block-broke recipes tops before done t ps calls old new r e i m d h (λ k. f.unfull (ap (λ x. Err x) k)) g)
-              | inr g ↦ (Empty, block-none recipes tops before done t ps calls old new r e h (λ k. f.unfull (ap (λ x. Err x) k)) g)
+              | inl g ↦ (Began t ps [] NoMore NoMore, block-broke recipes tops before done t ps calls old new r e i m d h (λ k. f.unfull (ap (λ x. Err x) k)) g)
+              | inr g ↦ (NoMore, block-none recipes tops before done t ps calls old new r e h (λ k. f.unfull (ap (λ x. Err x) k)) g)
             ]
       ]
 
@@ -194,7 +194,7 @@ module _ (recipes : List (Recipe Dependency)) (of_task : TaskInteractions) (p : 
             ]
         | inr (e, h, first) ↦
             let f : GivesNamed priors_of recipes (prior_dependencies recipes t.pair.recipe) old new (Err e) = leaf.ask t old new (Err e) first in
-            (Asked (with_priors t []) Empty, ask-broke recipes tops before done s t old new r e a m h (λ k. f.unfull (ap (λ x. Err x) k)) f.still)
+            (Asked (with_priors t []) NoMore, ask-broke recipes tops before done s t old new r e a m h (λ k. f.unfull (ap (λ x. Err x) k)) f.still)
       ]
 
   -- one place more
@@ -203,13 +203,13 @@ module _ (recipes : List (Recipe Dependency)) (of_task : TaskInteractions) (p : 
       let within : t.pair.recipe ≤ n = omega arith in
       elim (count-split p (get_or s.calls s.number 0) (2 ^ 64) (counted s) (visit_steps of_task (walk_steps of_task n) t) old new r took) [
         | inl (inl (e, c, h)) ↦ (
-          Empty,
-          broke recipes tops before done (suc t.pair.recipe) s (t ∷ []) old new r Empty Exhausted h (gained-none recipes old new (ap executed_in e)) tt (none-below (suc t.pair.recipe))
+          NoMore,
+          broke recipes tops before done (suc t.pair.recipe) s (t ∷ []) old new r NoMore Exhausted h (gained-none recipes old new (ap executed_in e)) tt (none-below (suc t.pair.recipe))
               (λ k. inl (full-here tops before done (suc t.pair.recipe) s t (2 ^ 64) a c)),
         )
         | inl (inr (e, h)) ↦ (
-          Empty,
-          broke recipes tops before done (suc t.pair.recipe) s (t ∷ []) old new r Empty Memory h (gained-none recipes old new (ap executed_in e)) tt (none-below (suc t.pair.recipe))
+          NoMore,
+          broke recipes tops before done (suc t.pair.recipe) s (t ∷ []) old new r NoMore Memory h (gained-none recipes old new (ap executed_in e)) tt (none-below (suc t.pair.recipe))
               (λ k. absurd (memory-not k)),
         )
         | inr visit ↦ elim (cases_Bool (s.table t.pair)) [
@@ -217,7 +217,7 @@ module _ (recipes : List (Recipe Dependency)) (of_task : TaskInteractions) (p : 
               let given : HasTrace p (Return (counted s)) old new r = subst (λ (q : Interaction State). HasTrace p q old new r)
               (cond-true (s.table t.pair) (Return (counted s)) (asking n s t) h) visit in
               let here : has same_pair done t.pair ≡ true = sym (ap (λ (f : OnceTable). f t.pair) a.table) ∙ h in (
-                Empty,
+                NoMore,
                 gave recipes tops before done (suc t.pair.recipe) s (counted s) (t ∷ []) old new r refl a.table refl
                     (All-cons (λ (q : Task). has same_pair done q.pair ≡ true) t [] here (none-in done)) given.0 given.1,
               )
@@ -280,16 +280,16 @@ run-quiet syntax t h r None = memory-not
 run-quiet syntax t h r (Some m) = recipe-quiet (body_of syntax t r m h)
 
 recipe-executes : (scene : Scene) (p : Question → Option Answer) (t : Task) (h : Held) (o : Option (Recipe Dependency)) (old new : Log) (r : Result (Unit {0}) Halt) → HasTrace p (execute_at scene t h o) old new r →
-    IsExecuted (of_recipe t o) old new r
+    IsExecuted (executed_by_recipe t o) old new r
 recipe-executes scene p t h None old new r took = ran-on p (Return tt) [] old old new r tt (sym (append-nil (executed_in old))) took
 recipe-executes scene p t h (Some recipe) old new r took =
     begin-executes p t.pair.groups recipe.recipe_path (run_in scene.syntax t h recipe (scene.modules recipe.module_path)) old new r (run-quiet scene.syntax t h recipe (scene.modules recipe.module_path)) took
 
 gives-executed : (recipes : List (Recipe Dependency)) (t : Task) (old new : Log) (r : Result (Unit {0}) Halt) →
-    IsExecuted (of_recipe t (slice_get recipes t.pair.recipe)) old new r → GivesExecuted recipes t old new r
+    IsExecuted (executed_by_recipe t (slice_get recipes t.pair.recipe)) old new r → GivesExecuted recipes t old new r
 gives-executed recipes t old new r (inl h) =
-    let one : executed_in old ++ of_recipe t (slice_get recipes t.pair.recipe) ≡ executed_in old ++ executions recipes (t ∷ []) =
-    ap (λ x. executed_in old ++ x) (sym (append-nil (of_recipe t (slice_get recipes t.pair.recipe)))) in
+    let one : executed_in old ++ executed_by_recipe t (slice_get recipes t.pair.recipe) ≡ executed_in old ++ executions recipes (t ∷ []) =
+    ap (λ x. executed_in old ++ x) (sym (append-nil (executed_by_recipe t (slice_get recipes t.pair.recipe)))) in
     record { whole = λ x k. h.0 ∙ one; broken = λ e k. inl (h.0 ∙ one); unfull = h.1 }
 gives-executed recipes t old new r (inr h) = record {
   whole = λ x k. absurd (ok-not r x Memory k h.1);

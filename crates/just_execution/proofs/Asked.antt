@@ -18,7 +18,7 @@ use Rattle.just_recipe.specs.declared.recipe.Recipe.{Recipe}
 use Rattle.just_recipes.specs.Places.{place_of}
 use Rattle.just_run_layers.specs.declared.held.Held.{Held}
 use Rattle.just_run_layers.specs.Evaluation.{Inquiry, Parameters, ScopeRequest, Surroundings, Value}
-use Rattle.just_run_layers.specs.Host.{Answer, Answers, Done, Given, Valued, Scoped, Bound, Paired, Changed, Ran, Refused}
+use Rattle.just_run_layers.specs.Host.{Answer, Answers, Done, TextGiven, Valued, ScopeGiven, Bound, Paired, Changed, Ran, Refused}
 use Rattle.just_run_layers.specs.Interactions.{Return, and_then, CanReturn, log_of}
 use Rattle.just_run_layers.proofs.InteractionLemmas.{took-asked}
 use Rattle.just_execution.specs.Account.{AreNamed, StandFor}
@@ -38,9 +38,9 @@ use Rattle.just_execution.proofs.Standing.{memory-not}
 -- nothing is executed
 valued-quiet : (a : Answer) → Quiet (valued_answered a)
 valued-quiet Done = memory-not
-valued-quiet (Given text) = memory-not
+valued-quiet (TextGiven text) = memory-not
 valued-quiet (Valued value) = tt
-valued-quiet (Scoped scope) = memory-not
+valued-quiet (ScopeGiven scope) = memory-not
 valued-quiet (Bound h) = memory-not
 valued-quiet (Paired pairs) = memory-not
 valued-quiet (Changed changes) = memory-not
@@ -49,9 +49,9 @@ valued-quiet (Refused message) = failed-not _
 
 bound-quiet : (a : Answer) → Quiet (bound_answered a)
 bound-quiet Done = memory-not
-bound-quiet (Given text) = memory-not
+bound-quiet (TextGiven text) = memory-not
 bound-quiet (Valued value) = memory-not
-bound-quiet (Scoped scope) = memory-not
+bound-quiet (ScopeGiven scope) = memory-not
 bound-quiet (Bound h) = tt
 bound-quiet (Paired pairs) = memory-not
 bound-quiet (Changed changes) = memory-not

@@ -11,7 +11,7 @@ use Rattle.just_execution.specs.Firsts.{has, without_key, firsts_by}
 use Rattle.just_execution.specs.loops.Lower.{IsLower}
 use Rattle.just_execution.specs.Reports.{IsFirstAsked}
 use Rattle.just_execution.specs.declared.task.Task.{Task}
-use Rattle.just_execution.specs.Pairs.{same_pair, key, AllBelow}
+use Rattle.just_execution.specs.Pairs.{same_pair, once_key, AllBelow}
 use Rattle.just_execution.specs.Run.{priors_by, run_parts, PriorsIgnoreFlag}
 use Rattle.just_execution.specs.Walking.{TaskInteractions}
 use Rattle.just_execution.proofs.Walks.{blocks, walk, walks}
@@ -88,12 +88,12 @@ module _ (of_task : TaskInteractions) (lower : IsLower of_task) (f : Question �
   asked-part zero (u ∷ us) b s t i = let low : u.pair.recipe < 0 = All-head (λ (t : Task). t.pair.recipe < 0) u us b in absurd (omega arith)
   asked-part (suc n) ts b s t i =
       let is = walk-parts of_task lower f (PriorsIgnoreFlag of_task f n) (suc n) ts (below-all (suc n) ts b) s in
-      subst (In (Prepare t)) is (all-asked same_pair key (priors_by of_task f) (suc n) [] ts t (subst (In (Block t)) (sym is) i))
+      subst (In (Prepare t)) is (all-asked same_pair once_key (priors_by of_task f) (suc n) [] ts t (subst (In (Block t)) (sym is) i))
 
   pub first-asked : (n : ℕ) (ts : List Task) → AllBelow n ts → PriorsIgnoreFlag of_task f n ts → (t : Task) → In (Block t) (run_parts of_task f n ts) → IsFirstAsked of_task f n ts t
   first-asked n ts b s t i = record {
     asked = asked-part n ts b s t i;
     alone = λ u asked same.
-        let one : Prepare u ≡ Prepare t = one-first (same_part same_pair) (part-exact same_pair pair-exact) (part_key key) (flat_map (expansion (priors_by of_task f) n) ts) (Prepare u) (Prepare t) asked (asked-part n ts b s t i) (ap (λ p. Prepare p) same) in
+        let one : Prepare u ≡ Prepare t = one-first (same_part same_pair) (part-exact same_pair pair-exact) (part_key once_key) (flat_map (expansion (priors_by of_task f) n) ts) (Prepare u) (Prepare t) asked (asked-part n ts b s t i) (ap (λ p. Prepare p) same) in
         cc;
   }

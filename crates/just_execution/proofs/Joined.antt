@@ -14,7 +14,7 @@ use Rattle.just_execution.specs.declared.pair.Pair.{Pair}
 use Rattle.just_execution.specs.Firsts.{has}
 use Rattle.just_execution.specs.declared.task.Task.{Task}
 use Rattle.just_execution.specs.Pairs.{same_pair, prior_dependencies}
-use Rattle.just_execution.specs.Account.{AskedTask, OnceTables, Empty, Asked, Began, own, begun, executions, AreIn, may_be_asked, pairs_asked, AreNamed, FitsTables, Complete, prior_count, asked_count, if_any, counts_below, IsFullBelow}
+use Rattle.just_execution.specs.Account.{AskedTask, OnceTables, NoMore, Asked, Began, own, begun, executions, AreIn, may_be_asked, pairs_asked, AreNamed, FitsTables, Complete, prior_count, asked_count, if_any, counts_below, IsFullBelow}
 use Rattle.just_execution.specs.Walking.{add_at}
 use Rattle.just_execution.proofs.Keeps.{has-append}
 use Rattle.just_execution.proofs.Pairs.{pair-exact}
@@ -25,7 +25,7 @@ with_priors t ps = record { task = t; priors = ps }
 
 -- those asked in the table itself
 abbrev pub asks : OnceTables → List AskedTask
-asks Empty = []
+asks NoMore = []
 asks (Asked a rest) = a ∷ asks rest
 asks (Began t ps ss below rest) = asks rest
 
@@ -45,38 +45,38 @@ Settled bound (a ∷ rest) done = (a.task.pair.recipe < bound → has same_pair 
 
 -- the priors of each asked are what its recipe names
 abbrev pub AllNamed : List (Recipe Dependency) → OnceTables → Type 0
-AllNamed recipes Empty = Unit {0}
+AllNamed recipes NoMore = Unit {0}
 AllNamed recipes (Asked a rest) = AreNamed recipes (prior_dependencies recipes a.task.pair.recipe) a.priors × AllNamed recipes rest
 AllNamed recipes (Began t ps ss below rest) = AllNamed recipes rest
 
 -- what happened in a table, and then more
 abbrev pub join : OnceTables → OnceTables → OnceTables
-join Empty u = u
+join NoMore u = u
 join (Asked a r) u = Asked a (join r u)
 join (Began t ps ss b r) u = Began t ps ss b (join r u)
 
 pub own-join : (t u : OnceTables) → own (join t u) ≡ own t ++ own u
-own-join Empty u = refl
+own-join NoMore u = refl
 own-join (Asked a r) u = own-join r u
 own-join (Began t ps ss b r) u = ap (λ x. t.pair ∷ x) (own-join r u)
 
 pub asks-join : (t u : OnceTables) → asks (join t u) ≡ asks t ++ asks u
-asks-join Empty u = refl
+asks-join NoMore u = refl
 asks-join (Asked a r) u = ap (λ x. a ∷ x) (asks-join r u)
 asks-join (Began t ps ss b r) u = asks-join r u
 
 pub begun-join : (t u : OnceTables) → begun (join t u) ≡ begun t ++ begun u
-begun-join Empty u = refl
+begun-join NoMore u = refl
 begun-join (Asked a r) u = begun-join r u
 begun-join (Began t ps ss b r) u = ap (λ x. t ∷ (begun b ++ x)) (begun-join r u) ∙ ap (λ x. t ∷ x) (sym (append_assoc (begun b) (begun r) (begun u)))
 
 pub priors-join : (t u : OnceTables) → prior_count (join t u) ≡ prior_count t + prior_count u
-priors-join Empty u = omega arith
+priors-join NoMore u = omega arith
 priors-join (Asked a r) u = priors-join r u
 priors-join (Began t ps ss b r) u = let h = priors-join r u in omega arith
 
 pub asked-join : (t u : OnceTables) → asked_count (join t u) ≡ asked_count t + asked_count u
-asked-join Empty u = omega arith
+asked-join NoMore u = omega arith
 asked-join (Asked a r) u = let h = asked-join r u in omega arith
 asked-join (Began t ps ss b r) u = asked-join r u
 
@@ -84,30 +84,30 @@ pub even-join : (t u : OnceTables) → asked_count t ≡ prior_count t → asked
 even-join t u h k = asked-join t u ∙ (λ i. h i + k i) ∙ sym (priors-join t u)
 
 pub below-join : (t u : OnceTables) → counts_below (join t u) ≡ counts_below t ++ counts_below u
-below-join Empty u = refl
+below-join NoMore u = refl
 below-join (Asked a r) u = below-join r u
 below-join (Began t ps ss b r) u = ap (λ x. if_any ss ((length ss + prior_count b) ∷ counts_below b) ++ x) (below-join r u)
     ∙ sym (append_assoc (if_any ss ((length ss + prior_count b) ∷ counts_below b)) (counts_below r) (counts_below u))
 
 pub Complete-join : (recipes : List (Recipe Dependency)) (t u : OnceTables) → Complete recipes t → Complete recipes u → Complete recipes (join t u)
-Complete-join recipes Empty u h k = k
+Complete-join recipes NoMore u h k = k
 Complete-join recipes (Asked a r) u h k = Complete-join recipes r u h k
 Complete-join recipes (Began t ps ss b r) u h k = (h.0, h.1, h.2, Complete-join recipes r u h.3 k)
 
 pub AllNamed-join : (recipes : List (Recipe Dependency)) (t u : OnceTables) → AllNamed recipes t → AllNamed recipes u → AllNamed recipes (join t u)
-AllNamed-join recipes Empty u h k = k
+AllNamed-join recipes NoMore u h k = k
 AllNamed-join recipes (Asked a r) u h k = (h.0, AllNamed-join recipes r u h.1 k)
 AllNamed-join recipes (Began t ps ss b r) u h k = AllNamed-join recipes r u h k
 
 pub full-join : (t u : OnceTables) → IsFullBelow u → IsFullBelow (join t u)
-full-join Empty u h = h
+full-join NoMore u h = h
 full-join (Asked a r) u h = full-join r u h
 full-join (Began t ps ss b r) u h = inr (full-join r u h)
 
 -- only where nothing failed can more follow
 pub Fits-join : (recipes : List (Recipe Dependency)) (tops : List Task) (t u : OnceTables) (asked : List AskedTask) (done : List Pair) → AllNamed recipes t → Complete recipes t →
     FitsTables recipes tops asked done t → FitsTables recipes tops (asked ++ asks t) (done ++ own t) u → FitsTables recipes tops asked done (join t u)
-Fits-join recipes tops Empty u asked done n c h k = subst (λ a. FitsTables recipes tops a done u) (append-nil asked) (subst (λ d. FitsTables recipes tops (asked ++ []) d u) (append-nil done) k)
+Fits-join recipes tops NoMore u asked done n c h k = subst (λ a. FitsTables recipes tops a done u) (append-nil asked) (subst (λ d. FitsTables recipes tops (asked ++ []) d u) (append-nil done) k)
 Fits-join recipes tops (Asked a r) u asked done n c h k = (
   record { from = h.0.from; unasked = h.0.unasked; named = inl n.0 },
   Fits-join recipes tops r u (asked ++ a ∷ []) done n.1 c h.1 (subst (λ x. FitsTables recipes tops x (done ++ own r) u) (sym (append_assoc asked (a ∷ []) (asks r))) k),
@@ -167,7 +167,7 @@ length-append [] ys = omega arith
 length-append (x ∷ xs) ys = let h = length-append xs ys in omega arith
 
 length-asked : (t : OnceTables) → length (flat_map (λ (a : AskedTask). a.priors) (asks t)) ≡ asked_count t
-length-asked Empty = refl
+length-asked NoMore = refl
 length-asked (Asked a r) = length-append a.priors (flat_map (λ (a : AskedTask). a.priors) (asks r)) ∙ ap (λ n. length a.priors + n) (length-asked r)
 length-asked (Began t ps ss b r) = length-asked r
 
@@ -178,7 +178,7 @@ length-known tops before t = ap (λ x. length x) (known-append tops before (asks
 pub length-known_one : (tops : List Task) (before : List AskedTask) (a : AskedTask) → length (may_be_asked tops (before ++ a ∷ [])) ≡ length (may_be_asked tops before) + length a.priors
 length-known_one tops before a =
     let e : length (may_be_asked tops before) + (length a.priors + 0) ≡ length (may_be_asked tops before) + length a.priors = omega arith in
-    length-known tops before (Asked a Empty) ∙ e
+    length-known tops before (Asked a NoMore) ∙ e
 
 pub length-known_none : (tops : List Task) → length (may_be_asked tops []) ≡ length tops
 length-known_none tops = ap (λ x. length x) (append-nil tops)

@@ -4,7 +4,7 @@ use Rattle.just_ast_definitions.specs.declared.line.Line.{Line}
 use Rattle.just_ast_expressions.specs.declared.expression.Expression.{Expression}
 use Rattle.just_errors.specs.declared.run_error.RunError.{RunError}
 use Rattle.just_names.specs.Texts.{Text}
-use Rattle.just_run_layers.specs.Host.{Answer, Done, Given, Valued, Scoped, Bound, Paired, Changed, Ran, Refused}
+use Rattle.just_run_layers.specs.Host.{Answer, Done, TextGiven, Valued, ScopeGiven, Bound, Paired, Changed, Ran, Refused}
 use Rattle.just_run_layers.specs.Interactions.{Return, Interaction, and_then}
 use Rattle.just_recipe_body.specs.Attributes.{changes_directory, continues_on, directory_of, first_said, timestamp_of}
 use Rattle.just_recipe_body.specs.Body.{BodyContents, changes_or, directory_steps, environment_steps, format_steps, concluded, joined_steps, line_steps, prepare_steps, prepared, said_format_steps, show_steps, string_steps, telling_steps, text_or, time_steps, unevaluated, untimed}
@@ -31,9 +31,9 @@ quiet-given (Err e) = failed-not e
 -- what answers come to
 text-quiet : (fault : Text → RunError) (a : Answer) → Quiet (text_or fault a)
 text-quiet fault Done = memory-not
-text-quiet fault (Given text) = tt
+text-quiet fault (TextGiven text) = tt
 text-quiet fault (Valued value) = memory-not
-text-quiet fault (Scoped scope) = memory-not
+text-quiet fault (ScopeGiven scope) = memory-not
 text-quiet fault (Bound h) = memory-not
 text-quiet fault (Paired pairs) = memory-not
 text-quiet fault (Changed changes) = memory-not
@@ -42,9 +42,9 @@ text-quiet fault (Refused message) = failed-not _
 
 changes-quiet : (a : Answer) → Quiet (changes_or a)
 changes-quiet Done = memory-not
-changes-quiet (Given text) = memory-not
+changes-quiet (TextGiven text) = memory-not
 changes-quiet (Valued value) = memory-not
-changes-quiet (Scoped scope) = memory-not
+changes-quiet (ScopeGiven scope) = memory-not
 changes-quiet (Bound h) = memory-not
 changes-quiet (Paired pairs) = memory-not
 changes-quiet (Changed changes) = tt
@@ -53,9 +53,9 @@ changes-quiet (Refused message) = failed-not _
 
 answered-quiet : (a : Answer) → Quiet (line_answered a)
 answered-quiet Done = memory-not
-answered-quiet (Given text) = tt
+answered-quiet (TextGiven text) = tt
 answered-quiet (Valued value) = memory-not
-answered-quiet (Scoped scope) = memory-not
+answered-quiet (ScopeGiven scope) = memory-not
 answered-quiet (Bound h) = memory-not
 answered-quiet (Paired pairs) = memory-not
 answered-quiet (Changed changes) = memory-not
@@ -64,9 +64,9 @@ answered-quiet (Refused message) = failed-not _
 
 shell-quiet : (b : BodyContents) (command : GroupCommand) (a : Answer) → Quiet (shell_answered b command a)
 shell-quiet b command Done = memory-not
-shell-quiet b command (Given text) = memory-not
+shell-quiet b command (TextGiven text) = memory-not
 shell-quiet b command (Valued value) = memory-not
-shell-quiet b command (Scoped scope) = memory-not
+shell-quiet b command (ScopeGiven scope) = memory-not
 shell-quiet b command (Bound h) = memory-not
 shell-quiet b command (Paired pairs) = memory-not
 shell-quiet b command (Changed changes) = memory-not

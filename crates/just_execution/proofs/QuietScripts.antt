@@ -3,7 +3,7 @@ use Rattle.std.proofs.Common.{Bool, false, List, [], ◌∷◌, Option, Some, No
 use Rattle.just_ast_definitions.specs.declared.line.Line.{Line}
 use Rattle.just_names.specs.Texts.{Text}
 use Rattle.just_run_layers.specs.declared.calls.Executor.{Executor}
-use Rattle.just_run_layers.specs.Host.{Answer, Done, Given, Valued, Scoped, Bound, Paired, Changed, Ran, Refused}
+use Rattle.just_run_layers.specs.Host.{Answer, Done, TextGiven, Valued, ScopeGiven, Bound, Paired, Changed, Ran, Refused}
 use Rattle.just_run_layers.specs.Interactions.{Return, and_then}
 use Rattle.just_recipe_body.specs.Attributes.{continues_on}
 use Rattle.just_recipe_body.specs.Body.{BodyContents, directory_steps, environment_steps, format_steps, concluded, line_steps, time_steps}
@@ -25,9 +25,9 @@ shown-quiet test texts = quiet-cond test (show_all_steps texts) (Return tt) (all
 module _ (b : BodyContents) where
   answered-quiet : (a : Answer) → Quiet (script_answered b a)
   answered-quiet Done = memory-not
-  answered-quiet (Given text) = memory-not
+  answered-quiet (TextGiven text) = memory-not
   answered-quiet (Valued value) = memory-not
-  answered-quiet (Scoped scope) = memory-not
+  answered-quiet (ScopeGiven scope) = memory-not
   answered-quiet (Bound h) = memory-not
   answered-quiet (Paired pairs) = memory-not
   answered-quiet (Changed changes) = memory-not

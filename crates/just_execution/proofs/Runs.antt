@@ -3,7 +3,7 @@ use Rattle.std.proofs.Common.{◌≡◌, List, [], length, Option, Ok, Err, refl
 use Rattle.std.specs.Prelude.{Result}
 use Rattle.just_errors.specs.declared.halt.Halt.{Halt}
 use Rattle.just_run_layers.specs.declared.host.Entry.{Entry}
-use Rattle.just_errors.specs.Halts.{without}
+use Rattle.just_errors.specs.Halts.{discard_value}
 use Rattle.just_run_layers.specs.Evaluation.{Inquiry}
 use Rattle.just_run_layers.specs.Host.{Answer}
 use Rattle.just_run_layers.specs.Interactions.{Log, both, trace_under, result_under, IsTraceOrPrefix}
@@ -20,7 +20,7 @@ use Rattle.just_execution.proofs.TaskInteractions.{leaves-lower}
 use Rattle.just_execution.proofs.Told.{took-run}
 use Rattle.just_execution.proofs.Whole.{fresh-run}
 
-without-calls : (r : Result Report Halt) → without (calls_in r) ≡ without r
+without-calls : (r : Result Report Halt) → discard_value (calls_in r) ≡ discard_value r
 without-calls (Ok report) = refl
 without-calls (Err e) = refl
 

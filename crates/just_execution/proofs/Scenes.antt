@@ -2,7 +2,7 @@
 use Rattle.std.proofs.Common.{◌≡◌, ◌∙◌, ℕ, List, [], length, Option, Some, None, Result, refl, ap, subst}
 use Rattle.std.specs.List.{All, slice_get}
 use Rattle.just_errors.specs.declared.halt.Halt.{Halt}
-use Rattle.just_errors.specs.Halts.{without}
+use Rattle.just_errors.specs.Halts.{discard_value}
 use Rattle.just_recipe.specs.declared.dependency.Dependency.{Dependency}
 use Rattle.just_recipe.specs.declared.recipe.Recipe.{Recipe}
 use Rattle.just_run_layers.specs.declared.held.Held.{Held}
@@ -69,7 +69,7 @@ module _ (e : Inquiry → Option Answer) (h : Entry → Option Answer) (tops : L
   abbrev IsExpectedBy : TaskInteractions → ℕ → Type 0
   IsExpectedBy of_task n =
       (f : Question → Answer) → ArePromised (both e h) f (trace_under f (run_steps of_task f n tops)) → PriorsIgnoreFlag of_task f n tops →
-      IsTraceOrPrefix (trace_under f (run_steps of_task f n tops)) (result_under f (run_steps of_task f n tops)) old new (without r)
+      IsTraceOrPrefix (trace_under f (run_steps of_task f n tops)) (result_under f (run_steps of_task f n tops)) old new (discard_value r)
 
   module _ (first second : Scene) (alike : AreAlike first second) where
     carried : (P : TaskInteractions → ℕ → Type 0) → P (interactions_of first) (length first.recipes) → P (interactions_of second) (length second.recipes)

@@ -12,7 +12,7 @@ use Rattle.just_recipe.specs.declared.recipe.Recipe.{Recipe}
 use Rattle.just_run_layers.specs.Host.{Answer}
 use Rattle.just_run_layers.specs.Interactions.{Log, executed_in, Question, Interaction, Return, Fail, and_then, HasTrace}
 use Rattle.just_execution.specs.declared.pair.Pair.{Pair}
-use Rattle.just_execution.specs.Account.{AskedTask, OnceTables, Empty, Asked, Began, own, begun, executions, AreIn, may_be_asked, AreNamed, AskFits, RunFits, FitsTables, Complete, prior_count, asked_count, counts_below, counts, IsFullBelow, IsFull}
+use Rattle.just_execution.specs.Account.{AskedTask, OnceTables, NoMore, Asked, Began, own, begun, executions, AreIn, may_be_asked, AreNamed, AskFits, RunFits, FitsTables, Complete, prior_count, asked_count, counts_below, counts, IsFullBelow, IsFull}
 use Rattle.just_execution.specs.Firsts.{has}
 use Rattle.just_execution.specs.declared.task.Task.{Task}
 use Rattle.just_execution.specs.Pairs.{OnceTable, put_in, same_pair, prior_dependencies, subsequent_dependencies}
@@ -94,10 +94,10 @@ gained-none recipes old new n = n ∙ sym (append-nil (executed_in old))
 pub gave : (recipes : List (Recipe Dependency)) (tops : List Task) (before : List AskedTask) (done : List Pair) (bound : ℕ) (s now : State) (ts : List Task) (old new : Log)
     (r : Result State Halt) →
     now.number ≡ s.number → now.table ≡ has same_pair done → now.calls ≡ add_at s.calls s.number (length ts) → AreIn done ts → new ≡ old → (r ≡ Ok now) ⊎ (r ≡ Err Memory) →
-    Accounts recipes tops before done bound s ts old new r Empty
+    Accounts recipes tops before done bound s ts old new r NoMore
 gave recipes tops before done bound s now ts old new r m t c d n h =
     let more : length ts ≡ length ts + 0 = omega arith in
-    let all : Walked recipes done ts s now Empty = record {
+    let all : Walked recipes done ts s now NoMore = record {
       number = m;
       table = t ∙ ap (has same_pair) (sym (append-nil done));
       all_done = subst (λ ps. AreIn ps ts) (sym (append-nil done)) d;
@@ -112,7 +112,7 @@ gave recipes tops before done bound s now ts old new r m t c d n h =
       fits = tt;
       low = none-below bound;
       whole = λ x k. elim (h) [
-        | inl a ↦ subst (λ x. Walked recipes done ts s x Empty) (ok-is r now x a k) all
+        | inl a ↦ subst (λ x. Walked recipes done ts s x NoMore) (ok-is r now x a k) all
         | inr a ↦ absurd (ok-not r x Memory k a)
       ];
       full = λ k. elim (h) [
@@ -260,8 +260,8 @@ full-asked tops before a u (inr h) = inr h
 -- a task begun, and then no more
 runs-gained : (recipes : List (Recipe Dependency)) (t : Task) (ps ss : List Task) (v : OnceTables) (old mid new : Log) →
     executed_in mid ≡ executed_in old ++ executions recipes (t ∷ []) → executed_in new ≡ executed_in mid ++ executions recipes (begun v) →
-    executed_in new ≡ executed_in old ++ executions recipes (begun (Began t ps ss v Empty))
-runs-gained recipes t ps ss v old mid new h k = joined-begun recipes (Began t ps [] Empty Empty) v (executed_in old) (executed_in mid) (executed_in new) h k
+    executed_in new ≡ executed_in old ++ executions recipes (begun (Began t ps ss v NoMore))
+runs-gained recipes t ps ss v old mid new h k = joined-begun recipes (Began t ps [] NoMore NoMore) v (executed_in old) (executed_in mid) (executed_in new) h k
     ∙ ap (λ x. executed_in old ++ executions recipes (t ∷ x)) (sym (append-nil (begun v)))
 
 -- a table of its own, from what happened under it
@@ -300,18 +300,18 @@ fresh-broke recipes ts bound s calls old new r e u a h = record {
 -- a task is begun
 run-fits : (recipes : List (Recipe Dependency)) (before : List AskedTask) (done : List Pair) (t : Task) (ps ss : List Task) (v : OnceTables) →
     In (with_priors t ps) before → has same_pair done t.pair ≡ false → AreIn done ps →
-    AreNamed recipes (subsequent_dependencies recipes t.pair.recipe) ss ⊎ ((ss ≡ []) × (v ≡ Empty) × (Empty ≡ Empty)) →
-    RunFits recipes before done t ps ss v Empty
+    AreNamed recipes (subsequent_dependencies recipes t.pair.recipe) ss ⊎ ((ss ≡ []) × (v ≡ NoMore) × (NoMore ≡ NoMore)) →
+    RunFits recipes before done t ps ss v NoMore
 run-fits recipes before done t ps ss v i n d m = record { asked_before = i; unbegun = n; priors_begun = d; named = m }
 
 -- the block failed before its subsequents
 pub block-broke : (recipes : List (Recipe Dependency)) (tops : List Task) (before : List AskedTask) (done : List Pair) (t : Task) (ps : List Task) (calls : List ℕ) (old new : Log)
     (r : Result (List ℕ) Halt) (e : Halt) →
     In (with_priors t ps) before → has same_pair done t.pair ≡ false → AreIn done ps → r ≡ Err e → (e ≡ Exhausted → ⊥) →
-    executed_in new ≡ executed_in old ++ executions recipes (t ∷ []) → Blocks recipes tops before done t ps calls old new r (Began t ps [] Empty Empty)
+    executed_in new ≡ executed_in old ++ executions recipes (t ∷ []) → Blocks recipes tops before done t ps calls old new r (Began t ps [] NoMore NoMore)
 block-broke recipes tops before done t ps calls old new r e i n d h k g = record {
   gained = g;
-  fits = (run-fits recipes before done t ps [] Empty i n d (inr (refl, refl, refl)), tt, tt);
+  fits = (run-fits recipes before done t ps [] NoMore i n d (inr (refl, refl, refl)), tt, tt);
   low = one-below t.pair;
   whole = λ now j. absurd (ok-not r now e j h);
   full = λ j. absurd (k (err-is r e Exhausted h j));
@@ -320,7 +320,7 @@ block-broke recipes tops before done t ps calls old new r e i n d h k g = record
 -- nor was it begun
 pub block-none : (recipes : List (Recipe Dependency)) (tops : List Task) (before : List AskedTask) (done : List Pair) (t : Task) (ps : List Task) (calls : List ℕ) (old new : Log)
     (r : Result (List ℕ) Halt) (e : Halt) →
-    r ≡ Err e → (e ≡ Exhausted → ⊥) → executed_in new ≡ executed_in old → Blocks recipes tops before done t ps calls old new r Empty
+    r ≡ Err e → (e ≡ Exhausted → ⊥) → executed_in new ≡ executed_in old → Blocks recipes tops before done t ps calls old new r NoMore
 block-none recipes tops before done t ps calls old new r e h k g = record {
   gained = gained-none recipes old new g;
   fits = tt;
@@ -333,7 +333,7 @@ block-none recipes tops before done t ps calls old new r e h k g = record {
 pub block-ran : (recipes : List (Recipe Dependency)) (tops : List Task) (before : List AskedTask) (done : List Pair) (t : Task) (ps ss : List Task) (calls : List ℕ)
     (old mid new : Log) (r : Result (List ℕ) Halt) (v : OnceTables) →
     In (with_priors t ps) before → has same_pair done t.pair ≡ false → AreIn done ps → AreNamed recipes (subsequent_dependencies recipes t.pair.recipe) ss →
-    executed_in mid ≡ executed_in old ++ executions recipes (t ∷ []) → IsFresh recipes ss calls mid new r v → Blocks recipes tops before done t ps calls old new r (Began t ps ss v Empty)
+    executed_in mid ≡ executed_in old ++ executions recipes (t ∷ []) → IsFresh recipes ss calls mid new r v → Blocks recipes tops before done t ps calls old new r (Began t ps ss v NoMore)
 block-ran recipes tops before done t ps ss calls old mid new r v i n d m g f =
     let same : length ps + 0 ≡ length ps = omega arith in
     record {
@@ -357,14 +357,14 @@ block-ran recipes tops before done t ps ss calls old mid new r v i n d m g f =
 -- the task whose priors could not be asked for
 pub ask-broke : (recipes : List (Recipe Dependency)) (tops : List Task) (before : List AskedTask) (done : List Pair) (s : State) (t : Task) (old new : Log) (r : Result State Halt) (e : Halt) →
     Stands tops before done (suc t.pair.recipe) s (t ∷ []) → has same_pair done t.pair ≡ false → r ≡ Err e → (e ≡ Exhausted → ⊥) → executed_in new ≡ executed_in old →
-    Accounts recipes tops before done (suc t.pair.recipe) s (t ∷ []) old new r (Asked (with_priors t []) Empty)
+    Accounts recipes tops before done (suc t.pair.recipe) s (t ∷ []) old new r (Asked (with_priors t []) NoMore)
 ask-broke recipes tops before done s t old new r e a n h k g =
-    let f : AskFits recipes tops before (with_priors t []) Empty = record {
+    let f : AskFits recipes tops before (with_priors t []) NoMore = record {
       from = All-head (λ (q : Task). In q (may_be_asked tops before)) t [] a.known_all;
       unasked = unasked t.pair done before a.settled n;
       named = inr (refl, refl);
     } in
-    broke recipes tops before done (suc t.pair.recipe) s (t ∷ []) old new r (Asked (with_priors t []) Empty) e h
+    broke recipes tops before done (suc t.pair.recipe) s (t ∷ []) old new r (Asked (with_priors t []) NoMore) e h
     (gained-none recipes old new g) (f, tt) (none-below (suc t.pair.recipe)) (λ j. absurd (k j))
 
 ask-fits : (recipes : List (Recipe Dependency)) (tops : List Task) (before : List AskedTask) (done : List Pair) (s : State) (t : Task) (ps : List Task) (u : OnceTables) →

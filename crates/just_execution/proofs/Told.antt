@@ -7,7 +7,7 @@ use Rattle.just_errors.specs.declared.halt.Halt.TheVariants.{Memory, Exhausted}
 use Rattle.just_run_layers.specs.Host.{Answer}
 use Rattle.just_run_layers.specs.Interactions.{Log, Question, Interaction, Return, Fail, Ask, and_then, CanReturn, HasTrace, trace_under, result_under, ArePromised, logged_all, IsTraceOrPrefix}
 use Rattle.just_run_layers.proofs.InteractionLemmas.{then-assoc, took-steady}
-use Rattle.just_errors.specs.Halts.{without}
+use Rattle.just_errors.specs.Halts.{discard_value}
 use Rattle.just_execution.specs.Run.{in_turn}
 
 -- two values of a relation, or one halt
@@ -95,7 +95,7 @@ pub in_turn-append : (xs ys : List (Interaction (Unit {0}))) → in_turn (xs ++ 
 in_turn-append [] ys = refl
 in_turn-append (x ∷ xs) ys = ap (λ s. and_then x (λ _. s)) (in_turn-append xs ys) ∙ sym (then-assoc x (λ _. in_turn xs) (λ _. in_turn ys))
 
-ends-without : {A : Type 0} (r : Result A Halt) (o : Result (Unit {0}) Halt) → Ends (λ x y. Unit {0}) r o → without r ≡ o
+ends-without : {A : Type 0} (r : Result A Halt) (o : Result (Unit {0}) Halt) → Ends (λ x y. Unit {0}) r o → discard_value r ≡ o
 ends-without (Ok x) (Ok y) h = refl
 ends-without (Ok x) (Err e) h = absurd h
 ends-without (Err e) (Ok y) h = absurd h
@@ -105,21 +105,21 @@ steady-left : (p : Question → Option Answer) (f : Question → Answer) (xs ys 
 steady-left p f [] ys h = tt
 steady-left p f (x ∷ xs) ys h = (h.0, steady-left p f xs ys h.1)
 
-halted : {A : Type 0} (r : Result A Halt) → (r ≡ Err Memory) ⊎ (r ≡ Err Exhausted) → (without r ≡ Err Memory) ⊎ (without r ≡ Err Exhausted)
-halted r (inl h) = inl (ap without h)
-halted r (inr h) = inr (ap without h)
+halted : {A : Type 0} (r : Result A Halt) → (r ≡ Err Memory) ⊎ (r ≡ Err Exhausted) → (discard_value r ≡ Err Memory) ⊎ (discard_value r ≡ Err Exhausted)
+halted r (inl h) = inl (ap discard_value h)
+halted r (inr h) = inr (ap discard_value h)
 
 -- what was taken of the counted steps follows the others
 pub took-run : (p : Question → Option Answer) (f : Question → Answer) (s : Interaction (List ℕ)) (u : Interaction (Unit {0})) (old new : Log) (r : Result (List ℕ) Halt) →
-    Within f (λ x y. Unit {0}) s u → ArePromised p f (trace_under f u) → HasTrace p s old new r → IsTraceOrPrefix (trace_under f u) (result_under f u) old new (without r)
+    Within f (λ x y. Unit {0}) s u → ArePromised p f (trace_under f u) → HasTrace p s old new r → IsTraceOrPrefix (trace_under f u) (result_under f u) old new (discard_value r)
 took-run p f s u old new r (inl (same, ends)) steady t =
-    let end : without (result_under f s) ≡ result_under f u = ends-without (result_under f s) (result_under f u) ends in
+    let end : discard_value (result_under f s) ≡ result_under f u = ends-without (result_under f s) (result_under f u) ends in
     elim (took-steady p f s old new r (subst (ArePromised p f) (sym same) steady) t) [
-      | inl (n, e) ↦ inl (n ∙ ap (λ qs. logged_all qs old) same, ap without e ∙ end)
+      | inl (n, e) ↦ inl (n ∙ ap (λ qs. logged_all qs old) same, ap discard_value e ∙ end)
       | inr (h, (xs, ys, e, n)) ↦ inr (halted r h, (xs, ys, sym same ∙ e, n))
     ]
 took-run p f s u old new r (inr (out, rest, begun)) steady t =
     elim (took-steady p f s old new r (steady-left p f (trace_under f s) rest (subst (ArePromised p f) begun steady)) t) [
-      | inl (n, e) ↦ inr (inr (ap without (e ∙ out)), (trace_under f s, rest, begun, n))
+      | inl (n, e) ↦ inr (inr (ap discard_value (e ∙ out)), (trace_under f s, rest, begun, n))
       | inr (h, (xs, ys, e, n)) ↦ inr (halted r h, (xs, ys ++ rest, begun ∙ ap (λ qs. qs ++ rest) e ∙ append_assoc xs ys rest, n))
     ]

@@ -14,7 +14,7 @@ use Rattle.just_execution.specs.Expansion.{Part, Prepare, Block, part_key}
 use Rattle.just_execution.specs.Firsts.{has}
 use Rattle.just_execution.specs.loops.Lower.{IsLower}
 use Rattle.just_execution.specs.declared.task.Task.{Task}
-use Rattle.just_execution.specs.Pairs.{same_pair, put_in, key, AllBelow}
+use Rattle.just_execution.specs.Pairs.{same_pair, put_in, once_key, AllBelow}
 use Rattle.just_execution.specs.Run.{tasks_in, priors_in, priors_by, subsequents_after, subsequents_by, block_run, part_steps, in_turn, Each}
 use Rattle.just_execution.proofs.Walks.{blocks, walk, walks}
 use Rattle.just_execution.specs.Walking.{TaskInteractions, Prepared, State, counted, all_steps, opened, fresh_steps, block_steps, ran, ran_steps, visit_steps, walk_steps}
@@ -28,7 +28,7 @@ abbrev pub rank : Pair → ℕ
 rank p = p.recipe
 
 abbrev pub AreLow : ℕ → List Task → Type 0
-AreLow k ts = Below rank k (map key ts)
+AreLow k ts = Below rank k (map once_key ts)
 
 pub below-all : (k : ℕ) (ts : List Task) → AllBelow k ts → AreLow k ts
 below-all k [] h = tt
@@ -64,10 +64,10 @@ module _ (of_task : TaskInteractions) (lower : IsLower of_task) where
 -- a walk of room n, whose subsequents run as `run` does
 module _ (of_task : TaskInteractions) (lower : IsLower of_task) (f : Question → Answer) (n : ℕ) (run : List Task → Interaction (Unit {0})) where
   abbrev W : ℕ → List Pair → Task → List (Part Task)
-  W j = walk same_pair key (priors_by of_task f) j
+  W j = walk same_pair once_key (priors_by of_task f) j
 
   abbrev keys_of : List (Part Task) → List Pair
-  keys_of xs = blocks (map (part_key key) xs)
+  keys_of xs = blocks (map (part_key once_key) xs)
 
   abbrev turned : List (Part Task) → Interaction (Unit {0})
   turned xs = in_turn (map (part_steps of_task f run) xs)
@@ -82,7 +82,7 @@ module _ (of_task : TaskInteractions) (lower : IsLower of_task) (f : Question �
   IsFresh (Block t) = (t.pair.recipe ≤ n) × ((calls : List ℕ) → Within f (λ x y. Unit {0}) (fresh_steps (walk_steps of_task n) (subsequents_by of_task f t) calls) (run (subsequents_by of_task f t)))
 
   keys-append : (xs ys : List (Part Task)) → keys_of (xs ++ ys) ≡ keys_of xs ++ keys_of ys
-  keys-append xs ys = ap blocks (map-append (part_key key) xs ys) ∙ blocks-append (map (part_key key) xs) (map (part_key key) ys)
+  keys-append xs ys = ap blocks (map-append (part_key once_key) xs ys) ∙ blocks-append (map (part_key once_key) xs) (map (part_key once_key) ys)
 
   turned-append : (xs ys : List (Part Task)) → and_then (turned xs) (λ _. turned ys) ≡ turned (xs ++ ys)
   turned-append xs ys = sym (ap in_turn (map-append (part_steps of_task f run) xs ys) ∙ in_turn-append (map (part_steps of_task f run) xs) (map (part_steps of_task f run) ys))
@@ -108,12 +108,12 @@ module _ (of_task : TaskInteractions) (lower : IsLower of_task) (f : Question �
   nothing : (s : State) (table : List Pair) → s.table ≡ has same_pair table → Within f (At (table ++ keys_of [])) (Return s) (turned [])
   nothing s table h = inl (refl, h ∙ ap (λ xs. has same_pair xs) (sym (append-nil table)))
 
-  pub listed : (j : ℕ) → IsWalked j → (s : State) (table : List Pair) (ts : List Task) → AreLow j ts → s.table ≡ has same_pair table → Each IsFresh (walks key (W j) table ts) →
-      Within f (At (table ++ keys_of (walks key (W j) table ts))) (all_steps (walk_steps of_task j) s ts) (turned (walks key (W j) table ts))
+  pub listed : (j : ℕ) → IsWalked j → (s : State) (table : List Pair) (ts : List Task) → AreLow j ts → s.table ≡ has same_pair table → Each IsFresh (walks once_key (W j) table ts) →
+      Within f (At (table ++ keys_of (walks once_key (W j) table ts))) (all_steps (walk_steps of_task j) s ts) (turned (walks once_key (W j) table ts))
   listed j ih s table [] l h g = nothing s table h
   listed j ih s table (t ∷ ts) l h g =
       let a : List (Part Task) = W j table t in
-      let b : List (Part Task) = walks key (W j) (table ++ keys_of a) ts in
+      let b : List (Part Task) = walks once_key (W j) (table ++ keys_of a) ts in
       joined (walk_steps of_task j s t) (λ now. all_steps (walk_steps of_task j) now ts) table a b (ih s table t l.0 h (Each-left IsFresh a b g))
       (λ z r. listed j ih z (table ++ keys_of a) ts l.1 r (Each-right IsFresh a b g))
 
@@ -144,7 +144,7 @@ module _ (of_task : TaskInteractions) (lower : IsLower of_task) (f : Question �
 
   -- the questions of a task, and what follows them
   asked : (j : ℕ) → IsWalked j → (s : State) (table : List Pair) (t : Task) → j ≤ n → t.pair.recipe ≤ j → s.table ≡ has same_pair table → (ws : List (Part Task)) →
-      ws ≡ walks key (W j) table (priors_by of_task f t) →
+      ws ≡ walks once_key (W j) table (priors_by of_task f t) →
       Each IsFresh (Prepare t ∷ (ws ++ Block t ∷ [])) →
       Within f (At (table ++ keys_of (Prepare t ∷ (ws ++ Block t ∷ [])))) (and_then (of_task.ask t) (λ a. and_then (all_steps (walk_steps of_task j) s a.priors) (ran_steps of_task (walk_steps of_task j) t a.held))) (turned (Prepare t ∷ (ws ++ Block t ∷ [])))
   asked j ih s table t b c h ws same g =
@@ -158,7 +158,7 @@ module _ (of_task : TaskInteractions) (lower : IsLower of_task) (f : Question �
       let ps : List Task = a.priors in
       let is : priors_by of_task f t ≡ ps = ap priors_in e in
       let low : AreLow j ps = below-more t.pair.recipe j ps c (priors-low of_task lower t a (outcome-gives f (of_task.ask t) a e)) in
-      let all : walks key (W j) table ps ≡ ws = sym (same ∙ ap (walks key (W j) table) is) in
+      let all : walks once_key (W j) table ps ≡ ws = sym (same ∙ ap (walks once_key (W j) table) is) in
       let first : Within f (At (table ++ keys_of ws)) (all_steps V s ps) (turned ws) =
       subst (λ xs. Within f (At (table ++ keys_of xs)) (all_steps V s ps) (turned xs)) all (listed j ih s table ps low h (subst (Each IsFresh) (sym all) fresh)) in
       joined (all_steps V s ps) (ran_steps of_task V t a.held) table ws (Block t ∷ []) first (λ z r. ran-within j t a z (table ++ keys_of ws) e b c block.0 r) in
@@ -183,7 +183,7 @@ module _ (of_task : TaskInteractions) (lower : IsLower of_task) (f : Question �
   walked zero m s table t l h g = absurd (omega arith)
   walked (suc j) m s table t l h g =
       let V : State → Task → Interaction State = walk_steps of_task j in
-      let ws : List (Part Task) = walks key (W j) table (priors_by of_task f t) in
+      let ws : List (Part Task) = walks once_key (W j) table (priors_by of_task f t) in
       let xs : List (Part Task) = Prepare t ∷ (ws ++ Block t ∷ []) in
       let z : State = counted s in
       let rest : Interaction State = and_then (of_task.ask t) (λ a. and_then (all_steps V z a.priors) (ran_steps of_task V t a.held)) in
@@ -193,11 +193,11 @@ module _ (of_task : TaskInteractions) (lower : IsLower of_task) (f : Question �
       tallied (get_or s.calls s.number 0 + 1 == 2 ^ 64) (At (table ++ keys_of (W (suc j) table t))) z (visit_steps of_task V t) (turned (W (suc j) table t)) after
 
   -- a fresh table
-  pub fresh-walked : (ts : List Task) (calls : List ℕ) → AreLow (suc n) ts → Each IsFresh (walks key (W (suc n)) [] ts) →
-      Within f (λ x y. Unit {0}) (fresh_steps (walk_steps of_task (suc n)) ts calls) (turned (walks key (W (suc n)) [] ts))
+  pub fresh-walked : (ts : List Task) (calls : List ℕ) → AreLow (suc n) ts → Each IsFresh (walks once_key (W (suc n)) [] ts) →
+      Within f (λ x y. Unit {0}) (fresh_steps (walk_steps of_task (suc n)) ts calls) (turned (walks once_key (W (suc n)) [] ts))
   fresh-walked [] calls l g = inl (refl, tt)
   fresh-walked (t ∷ ts) calls l g =
-      let ws : List (Part Task) = walks key (W (suc n)) [] (t ∷ ts) in
+      let ws : List (Part Task) = walks once_key (W (suc n)) [] (t ∷ ts) in
       let all : Interaction State = all_steps (walk_steps of_task (suc n)) (opened calls) (t ∷ ts) in
       subst (λ u. Within f (λ x y. Unit {0}) (and_then all (λ s. Return s.calls)) u) (then-give (turned ws))
       (within-then f (At (keys_of ws)) (λ x y. Unit {0}) all (turned ws) (λ s. Return s.calls) (λ x. Return x)

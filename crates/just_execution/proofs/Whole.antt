@@ -12,7 +12,7 @@ use Rattle.just_execution.specs.Expansion.{Part, Prepare, Block, same_part, part
 use Rattle.just_execution.specs.Firsts.{has, without_key, firsts_by}
 use Rattle.just_execution.specs.loops.Lower.{IsLower}
 use Rattle.just_execution.specs.declared.task.Task.{Task}
-use Rattle.just_execution.specs.Pairs.{same_pair, key, task, AllBelow}
+use Rattle.just_execution.specs.Pairs.{same_pair, once_key, task, AllBelow}
 use Rattle.just_execution.specs.Run.{tasks_in, priors_in, priors_by, subsequents_after, subsequents_by, block_run, part_steps, in_turn, run_parts, run_steps, Each, PartIgnoresFlag, PriorsIgnoreFlag}
 use Rattle.just_execution.proofs.Walks.{blocks, walk, walks}
 use Rattle.just_execution.specs.Walking.{TaskInteractions, Prepared, fresh_steps, walk_steps}
@@ -138,7 +138,7 @@ module _ (of_task : TaskInteractions) (lower : IsLower of_task) (f : Question �
   )
 
   low-parts : (n k : ℕ) (ts : List Task) → AreLow k ts → Each (IsLow k) (run_parts of_task f n ts)
-  low-parts n k ts b = Each-firsts (same_part same_pair) (part-exact same_pair pair-exact) (part_key key) (IsLow k) (flat_map (E n) ts) (low-flat n k (low-expansion n k) ts b)
+  low-parts n k ts b = Each-firsts (same_part same_pair) (part-exact same_pair pair-exact) (part_key once_key) (IsLow k) (flat_map (E n) ts) (low-flat n k (low-expansion n k) ts b)
 
   -- whether a task runs as a dependency does not matter
   abbrev plain : Pair → List Task
@@ -148,24 +148,24 @@ module _ (of_task : TaskInteractions) (lower : IsLower of_task) (f : Question �
   flag-either p h true = h
   flag-either p h false = refl
 
-  even-one : (t : Task) → priors_by of_task f (task true t.pair) ≡ plain t.pair → (s : Task) → key s ≡ t.pair → priors_by of_task f s ≡ plain (key s)
+  even-one : (t : Task) → priors_by of_task f (task true t.pair) ≡ plain t.pair → (s : Task) → once_key s ≡ t.pair → priors_by of_task f s ≡ plain (once_key s)
   even-one t h s e = flag-either s.pair (subst (λ p. priors_by of_task f (task true p) ≡ plain p) (sym e) h) s.dependency
 
-  parts-even : (run : List Task → Type 0) (xs : List (Part Task)) → Each (PartIgnoresFlag of_task f run) xs → Agree same_pair key (priors_by of_task f) (λ t. plain (key t)) xs
+  parts-even : (run : List Task → Type 0) (xs : List (Part Task)) → Each (PartIgnoresFlag of_task f run) xs → Agree same_pair once_key (priors_by of_task f) (λ t. plain (once_key t)) xs
   parts-even run [] s = tt
   parts-even run (Prepare t ∷ xs) s = ((λ u e. even-one t s.0 u e), parts-even run xs s.1)
   parts-even run (Block t ∷ xs) s = (tt, parts-even run xs s.1)
 
   -- so the walk is the parts of the run
   pub walk-parts : (run : List Task → Type 0) (n : ℕ) (ts : List Task) → AreLow n ts → Each (PartIgnoresFlag of_task f run) (run_parts of_task f n ts) →
-      walks key (walk same_pair key (priors_by of_task f) n) [] ts ≡ run_parts of_task f n ts
+      walks once_key (walk same_pair once_key (priors_by of_task f) n) [] ts ≡ run_parts of_task f n ts
   walk-parts run n ts b s =
-      let G : Task → List Task = λ t. plain (key t) in
-      let alike : Agree same_pair key (priors_by of_task f) G (flat_map (E n) ts) =
-      Each-all (same_part same_pair) (part-exact same_pair pair-exact) (part_key key) (Alike same_pair key (priors_by of_task f) G) (flat_map (E n) ts) (parts-even run (run_parts of_task f n ts) s) in
-      walks-agree same_pair key (priors_by of_task f) G n [] ts alike
-      ∙ walks-firsts_by same_pair pair-exact key plain rank (λ p. priors-lower (task false p)) n ts b
-      ∙ ap (firsts_by (same_part same_pair) (part_key key)) (sym (expansions-agree same_pair key (priors_by of_task f) G n ts alike))
+      let G : Task → List Task = λ t. plain (once_key t) in
+      let alike : Agree same_pair once_key (priors_by of_task f) G (flat_map (E n) ts) =
+      Each-all (same_part same_pair) (part-exact same_pair pair-exact) (part_key once_key) (Alike same_pair once_key (priors_by of_task f) G) (flat_map (E n) ts) (parts-even run (run_parts of_task f n ts) s) in
+      walks-agree same_pair once_key (priors_by of_task f) G n [] ts alike
+      ∙ walks-firsts_by same_pair pair-exact once_key plain rank (λ p. priors-lower (task false p)) n ts b
+      ∙ ap (firsts_by (same_part same_pair) (part_key once_key)) (sym (expansions-agree same_pair once_key (priors_by of_task f) G n ts alike))
 
   abbrev Runs : ℕ → Type 0
   Runs n = (ts : List Task) (calls : List ℕ) → AreLow n ts → PriorsIgnoreFlag of_task f n ts → Within f (λ x y. Unit {0}) (fresh_steps (walk_steps of_task n) ts calls) (run_steps of_task f n ts)
@@ -185,7 +185,7 @@ module _ (of_task : TaskInteractions) (lower : IsLower of_task) (f : Question �
   runs (suc n) ts calls b s =
       let run : List Task → Interaction (Unit {0}) = run_steps of_task f n in
       let S : List (Part Task) = run_parts of_task f (suc n) ts in
-      let ws : List (Part Task) = walks key (walk same_pair key (priors_by of_task f) (suc n)) [] ts in
+      let ws : List (Part Task) = walks once_key (walk same_pair once_key (priors_by of_task f) (suc n)) [] ts in
       let same : ws ≡ S = walk-parts (PriorsIgnoreFlag of_task f n) (suc n) ts b s in
       let fresh : Each (IsFresh of_task lower f n run) S = parts-fresh n (runs n) S (low-parts (suc n) (suc n) ts b) s in
       subst (λ xs. Within f (λ x y. Unit {0}) (fresh_steps (walk_steps of_task (suc n)) ts calls) (in_turn (map (part_steps of_task f run) xs))) same
@@ -238,7 +238,7 @@ module _ (of_task : TaskInteractions) (lower : IsLower of_task) (f : Question �
   runs-more (suc n) zero (t ∷ ts) a b = let h = b.0 in absurd (omega arith)
   runs-more (suc n) (suc m) ts a b =
       turn-more n m (runs-more n m) (run_parts of_task f (suc n) ts) (low-parts (suc n) (suc n) ts a) (low-parts (suc n) (suc m) ts b)
-      ∙ ap (λ xs. in_turn (map (part_steps of_task f (run_steps of_task f m)) (firsts_by (same_part same_pair) (part_key key) xs))) (both-more (suc n) (suc m) ts a b)
+      ∙ ap (λ xs. in_turn (map (part_steps of_task f (run_steps of_task f m)) (firsts_by (same_part same_pair) (part_key once_key) xs))) (both-more (suc n) (suc m) ts a b)
 
 -- the walk of a fresh table is within the expected run
 pub fresh-run : (of_task : TaskInteractions) → IsLower of_task → (f : Question → Answer) (n : ℕ) (ts : List Task) (calls : List ℕ) → AllBelow n ts → PriorsIgnoreFlag of_task f n ts →

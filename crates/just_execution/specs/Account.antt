@@ -23,19 +23,19 @@ pub record AskedTask : Type 0 where
 
 -- what happened in one table, in order: a task asked; or a task begun, with its priors, its subsequents and the table below whose tops these are
 pub data OnceTables : Type 0 where
-  Empty : OnceTables
+  NoMore : OnceTables
   Asked : (asked : AskedTask) (rest : OnceTables) → OnceTables
   Began : (task : Task) (priors subsequents : List Task) (below rest : OnceTables) → OnceTables
 
 -- the pairs begun in the table itself
 abbrev pub own : OnceTables → List Pair
-own Empty = []
+own NoMore = []
 own (Asked a rest) = own rest
 own (Began t ps ss below rest) = t.pair ∷ own rest
 
 -- those begun in it and below, in order: a table below stands directly after its task
 abbrev pub begun : OnceTables → List Task
-begun Empty = []
+begun NoMore = []
 begun (Asked a rest) = begun rest
 begun (Began t ps ss below rest) = t ∷ (begun below ++ begun rest)
 
@@ -44,12 +44,12 @@ abbrev pub at_path : List (List (List ℕ)) → Option Modulepath → List Execu
 at_path groups None = []
 at_path groups (Some path) = record { path = path; groups = groups } ∷ []
 
-abbrev pub of_recipe : Task → Option (Recipe Dependency) → List Executed
-of_recipe t None = []
-of_recipe t (Some recipe) = at_path t.pair.groups recipe.recipe_path
+abbrev pub executed_by_recipe : Task → Option (Recipe Dependency) → List Executed
+executed_by_recipe t None = []
+executed_by_recipe t (Some recipe) = at_path t.pair.groups recipe.recipe_path
 
 abbrev pub executions : List (Recipe Dependency) → List Task → List Executed
-executions recipes ts = flat_map (λ (t : Task). of_recipe t (slice_get recipes t.pair.recipe)) ts
+executions recipes ts = flat_map (λ (t : Task). executed_by_recipe t (slice_get recipes t.pair.recipe)) ts
 
 -- the pair of each task is among some pairs
 abbrev pub AreIn : List Pair → List Task → Type 0
@@ -78,7 +78,7 @@ AreNamed recipes (d ∷ ds) ts = (these : List Task) × (others : List Task) × 
 pub record AskFits (recipes : List (Recipe Dependency)) (tops : List Task) (asked : List AskedTask) (a : AskedTask) (rest : OnceTables) : Type 0 where
   pub from : In a.task (may_be_asked tops asked)
   pub unasked : has same_pair (pairs_asked asked) a.task.pair ≡ false
-  pub named : AreNamed recipes (prior_dependencies recipes a.task.pair.recipe) a.priors ⊎ ((a.priors ≡ []) × (rest ≡ Empty))
+  pub named : AreNamed recipes (prior_dependencies recipes a.task.pair.recipe) a.priors ⊎ ((a.priors ≡ []) × (rest ≡ NoMore))
 
 -- a task begun where some were asked and some begun: it was asked, its pair was not begun, and those of its priors were;
 -- its subsequents are what its recipe names, or its beginning was the last that happened
@@ -86,30 +86,30 @@ pub record RunFits (recipes : List (Recipe Dependency)) (asked : List AskedTask)
   pub asked_before : In (record { task = t; priors = ps }) asked
   pub unbegun : has same_pair done t.pair ≡ false
   pub priors_begun : AreIn done ps
-  pub named : AreNamed recipes (subsequent_dependencies recipes t.pair.recipe) ss ⊎ ((ss ≡ []) × (below ≡ Empty) × (rest ≡ Empty))
+  pub named : AreNamed recipes (subsequent_dependencies recipes t.pair.recipe) ss ⊎ ((ss ≡ []) × (below ≡ NoMore) × (rest ≡ NoMore))
 
 -- what happened in a table with these tops, where some were asked and some begun, and in those below it
 abbrev pub FitsTables : List (Recipe Dependency) → List Task → List AskedTask → List Pair → OnceTables → Type 0
-FitsTables recipes tops asked done Empty = Unit {0}
+FitsTables recipes tops asked done NoMore = Unit {0}
 FitsTables recipes tops asked done (Asked a rest) = AskFits recipes tops asked a rest × FitsTables recipes tops (asked ++ a ∷ []) done rest
 FitsTables recipes tops asked done (Began t ps ss below rest) =
     RunFits recipes asked done t ps ss below rest × FitsTables recipes ss [] [] below × FitsTables recipes tops asked (done ++ t.pair ∷ []) rest
 
 -- the subsequents of each task begun are what its recipe names, and each was begun in the table below
 abbrev pub Complete : List (Recipe Dependency) → OnceTables → Type 0
-Complete recipes Empty = Unit {0}
+Complete recipes NoMore = Unit {0}
 Complete recipes (Asked a rest) = Complete recipes rest
 Complete recipes (Began t ps ss below rest) =
     AreNamed recipes (subsequent_dependencies recipes t.pair.recipe) ss × AreIn (own below) ss × Complete recipes below × Complete recipes rest
 
 -- the number of priors of the tasks begun in a table, and of those asked in it
 abbrev pub prior_count : OnceTables → ℕ
-prior_count Empty = 0
+prior_count NoMore = 0
 prior_count (Asked a rest) = prior_count rest
 prior_count (Began t ps ss below rest) = length ps + prior_count rest
 
 abbrev pub asked_count : OnceTables → ℕ
-asked_count Empty = 0
+asked_count NoMore = 0
 asked_count (Asked a rest) = length a.priors + asked_count rest
 asked_count (Began t ps ss below rest) = asked_count rest
 
@@ -120,7 +120,7 @@ if_any (t ∷ ts) ns = ns
 
 -- for a table with these tops and then those below it, in the order of opening: its tops and the priors of its tasks
 abbrev pub counts_below : OnceTables → List ℕ
-counts_below Empty = []
+counts_below NoMore = []
 counts_below (Asked a rest) = counts_below rest
 counts_below (Began t ps ss below rest) = if_any ss ((length ss + prior_count below) ∷ counts_below below) ++ counts_below rest
 
@@ -130,7 +130,7 @@ counts tops t = if_any tops ((length tops + prior_count t) ∷ counts_below t)
 
 -- a table with these tops, or one below it, was to be called more often than 64 bits can count
 abbrev pub IsFullBelow : OnceTables → Type 0
-IsFullBelow Empty = ⊥
+IsFullBelow NoMore = ⊥
 IsFullBelow (Asked a rest) = IsFullBelow rest
 IsFullBelow (Began t ps ss below rest) = ((2 ^ 64 ≤ length ss + asked_count below) ⊎ IsFullBelow below) ⊎ IsFullBelow rest
 

@@ -9,7 +9,7 @@ use Rattle.just_parts.specs.Scopes.{Scoped, scopes_of}
 use Rattle.just_parts.specs.Syntax.{SyntaxAnswers}
 use Rattle.just_paths.specs.contracts.modulepath.ModulepathPartialEq.TheImpl as path_eq
 use Rattle.just_paths.specs.declared.modulepath.Modulepath.{Modulepath}
-use Rattle.just_recipe.specs.Grouping.{joined}
+use Rattle.just_recipe.specs.Grouping.{concatenated}
 use Rattle.just_recipe.specs.declared.dependency.Dependency.{Dependency}
 use Rattle.just_recipe.specs.declared.dependency.DependencyArgument.{DependencyArgument}
 use Rattle.just_recipe.specs.declared.recipe.Recipe.{Recipe}
@@ -28,7 +28,7 @@ module_scope_at modules (Some path) = get path_eq.ghosts.eq modules path
 
 -- the arguments of a dependency, one after another
 abbrev pub arguments_of : Dependency → List DependencyArgument
-arguments_of d = joined d.arguments
+arguments_of d = concatenated d.arguments
 
 -- what an expression in its scope reads is bound among some values
 abbrev pub IsRead : Known → Scope → Scoped → Type 0

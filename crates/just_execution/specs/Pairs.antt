@@ -16,16 +16,16 @@ abbrev pub OnceTable : Type 0
 OnceTable = Pair → Bool
 
 -- none did
-abbrev pub none : OnceTable
-none p = false
+abbrev pub nothing_ran : OnceTable
+nothing_ran p = false
 
 -- one more did
 abbrev pub put_in : OnceTable → Pair → OnceTable
 put_in table pair p = table p || same_pair pair p
 
 -- the pair alone is what a once table holds
-abbrev pub key : Task → Pair
-key t = t.pair
+abbrev pub once_key : Task → Pair
+once_key t = t.pair
 
 -- the task of a pair
 abbrev pub task : Bool → Pair → Task

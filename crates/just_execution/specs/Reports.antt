@@ -6,7 +6,7 @@ use Rattle.just_errors.specs.declared.halt.Halt.{Halt}
 use Rattle.just_errors.specs.declared.halt.Halt.TheVariants.{Memory, Exhausted}
 use Rattle.just_run_layers.specs.declared.host.Entry.{Entry}
 use Rattle.just_recipe.specs.declared.recipe.Recipe.{Recipe}
-use Rattle.just_errors.specs.Halts.{without}
+use Rattle.just_errors.specs.Halts.{discard_value}
 use Rattle.just_run_layers.specs.Evaluation.{Inquiry}
 use Rattle.just_run_layers.specs.Host.{Answer}
 use Rattle.just_run_layers.specs.Interactions.{Log, Question, Interaction, HasTrace, both, trace_under, result_under, ArePromised, IsTraceOrPrefix}
@@ -49,7 +49,7 @@ IsEnough scene n = (f : Question → Answer) (tops : List Task) → AllBelow (le
 abbrev pub TasksRunAsExpected : (Inquiry → Option Answer) → (Entry → Option Answer) → Scene → List Task → Log → Log → Result Report Halt → Type 0
 TasksRunAsExpected evaluator host scene tops old new result =
     (f : Question → Answer) → ArePromised (both evaluator host) f (trace_under f (expected_steps scene f tops)) → PriorsIgnoreFlag (interactions_of scene) f (length scene.recipes) tops →
-    IsTraceOrPrefix (trace_under f (expected_steps scene f tops)) (result_under f (expected_steps scene f tops)) old new (without result)
+    IsTraceOrPrefix (trace_under f (expected_steps scene f tops)) (result_under f (expected_steps scene f tops)) old new (discard_value result)
 
 -- in the expected run of these tasks, a task is the one that asks for its pair, and alone does so
 pub record IsFirstAsked (of_task : TaskInteractions) (f : Question → Answer) (n : ℕ) (tops : List Task) (t : Task) : Type 0 where

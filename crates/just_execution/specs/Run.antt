@@ -6,7 +6,7 @@ use Rattle.just_run_layers.specs.Interactions.{Question, Interaction, Return, Fa
 use Rattle.just_execution.specs.Expansion.{Part, Prepare, Block, same_part, part_key, expansion}
 use Rattle.just_execution.specs.Firsts.{firsts_by}
 use Rattle.just_execution.specs.declared.task.Task.{Task}
-use Rattle.just_execution.specs.Pairs.{same_pair, key, task}
+use Rattle.just_execution.specs.Pairs.{same_pair, once_key, task}
 use Rattle.just_execution.specs.Walking.{TaskInteractions, Prepared}
 
 -- the tasks that steps come to, and none where they fail
@@ -48,7 +48,7 @@ in_turn (s ∷ ss) = and_then s (λ _. in_turn ss)
 
 -- the first questions and the first block of each pair in the expansions of tasks, one after another
 abbrev pub run_parts : TaskInteractions → (Question → Answer) → ℕ → List Task → List (Part Task)
-run_parts of_task f n ts = firsts_by (same_part same_pair) (part_key key) (flat_map (expansion (priors_by of_task f) n) ts)
+run_parts of_task f n ts = firsts_by (same_part same_pair) (part_key once_key) (flat_map (expansion (priors_by of_task f) n) ts)
 
 -- the run of a list, for tasks of places below n
 abbrev pub run_steps : TaskInteractions → (Question → Answer) → ℕ → List Task → Interaction (Unit {0})

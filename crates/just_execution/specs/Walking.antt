@@ -4,7 +4,7 @@ use Rattle.just_errors.specs.declared.halt.Halt.TheVariants.{Exhausted}
 use Rattle.just_run_layers.specs.Interactions.{Interaction, Return, Fail, and_then}
 use Rattle.just_run_layers.specs.declared.held.Held.{Held}
 use Rattle.just_execution.specs.declared.task.Task.{Task}
-use Rattle.just_execution.specs.Pairs.{OnceTable, none, put_in}
+use Rattle.just_execution.specs.Pairs.{OnceTable, nothing_ran, put_in}
 
 -- what asking for a task comes to: what is held for its block, and its priors
 pub record Prepared : Type 0 where
@@ -44,7 +44,7 @@ all_steps walk s (t ∷ ts) = and_then (walk s t) (λ now. all_steps walk now ts
 
 -- a new table is open
 abbrev pub opened : List ℕ → State
-opened calls = record { number = length calls; table = none; calls = calls ++ 0 ∷ [] }
+opened calls = record { number = length calls; table = nothing_ran; calls = calls ++ 0 ∷ [] }
 
 -- tasks under a table of their own, which is opened where there are any
 abbrev pub fresh_steps : (State → Task → Interaction State) → List Task → List ℕ → Interaction (List ℕ)

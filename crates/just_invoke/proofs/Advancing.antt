@@ -20,7 +20,7 @@ use Rattle.just_justfile.specs.declared.justfile.Justfile.{Justfile, out-Justfil
 use Rattle.just_invoke.specs.Cause.{InvocationFault}
 use Rattle.just_evaluate.specs.Destination.{submodule_aliased}
 use Rattle.just_invoke.specs.Meaning.{Meaning, a_module, a_recipe, disabled_recipe, disabled_alias, absent_module, nothing, disabling, found_or, meaning}
-use Rattle.just_invoke.specs.Head.{MeaningLeads, MeaningMisleads, WordsLead, WordsMislead, goes_on, place_of}
+use Rattle.just_invoke.specs.Head.{MeaningLeads, MeaningMisleads, WordsLead, WordsMislead, goes_on, absolute_path_of}
 use Rattle.just_invoke.specs.loops.Head.{BadName, IsEnd, IsNoEnd, IsStep}
 use Rattle.just_invoke.specs.declared.walk.Step.{Step}
 use Rattle.just_invoke.specs.declared.walk.Step.TheVariants as step
@@ -137,13 +137,13 @@ module _ (root : Justfile) (recipes : HeldRecipes) (one : Bool) (names : List (B
           (reached.leads (name.now ∷ head) rest r (subst (λ m. MeaningLeads m (λ next. WordsLead root recipes next head rest r) head r) (sym is) p))
 
       misleads_on : (c : InvocationFault) → MeaningMisleads m (λ next. WordsMislead root recipes next one (texts (take (at + 1) names)) (texts (drop (at + 1) names)) c)
-          one (goes_on one (texts (drop (at + 1) names))) (texts (take (at + 1) names)) (place_of here name.now) c → WordsMislead root recipes root one [] (texts names) c
+          one (goes_on one (texts (drop (at + 1) names))) (texts (take (at + 1) names)) (absolute_path_of here name.now) c → WordsMislead root recipes root one [] (texts names) c
       misleads_on c p =
           reached.misleads c
           (subst (λ ws. WordsMislead root recipes here one (texts (take at names)) ws c) (sym rest)
-          (subst (λ path. MeaningMisleads (meaning root recipes here name.now) (λ next. WordsMislead root recipes next one path (texts (drop (at + 1) names)) c) one (goes_on one (texts (drop (at + 1) names))) path (place_of here name.now) c) front
+          (subst (λ path. MeaningMisleads (meaning root recipes here name.now) (λ next. WordsMislead root recipes next one path (texts (drop (at + 1) names)) c) one (goes_on one (texts (drop (at + 1) names))) path (absolute_path_of here name.now) c) front
           (subst (λ m. MeaningMisleads m (λ next. WordsMislead root recipes next one (texts (take (at + 1) names)) (texts (drop (at + 1) names)) c)
-          one (goes_on one (texts (drop (at + 1) names))) (texts (take (at + 1) names)) (place_of here name.now) c) (sym is) p)))
+          one (goes_on one (texts (drop (at + 1) names))) (texts (take (at + 1) names)) (absolute_path_of here name.now) c) (sym is) p)))
 
       -- a module leads on
       reached_on : (next : Justfile) → AreModulesOrdered root → m ≡ a_module next → IsReached (at + 1) next
@@ -151,7 +151,7 @@ module _ (root : Justfile) (recipes : HeldRecipes) (one : Bool) (names : List (B
         ordered = subst MeansOrdered (is ∙ on) (means_ordered root recipes here name.now order reached.ordered);
         leads = λ head rest r p. leads_on head rest r (subst (λ m. MeaningLeads m (λ next. WordsLead root recipes next head rest r) head r) (sym on) p);
         misleads = λ c p. misleads_on c (subst (λ m. MeaningMisleads m (λ next. WordsMislead root recipes next one (texts (take (at + 1) names)) (texts (drop (at + 1) names)) c)
-            one (goes_on one (texts (drop (at + 1) names))) (texts (take (at + 1) names)) (place_of here name.now) c) (sym on) p);
+            one (goes_on one (texts (drop (at + 1) names))) (texts (take (at + 1) names)) (absolute_path_of here name.now) c) (sym on) p);
       }
 
       -- a recipe ends the names
@@ -169,12 +169,12 @@ module _ (root : Justfile) (recipes : HeldRecipes) (one : Bool) (names : List (B
     stands_next (step.End r) order e = ended_at (meaning root recipes here name.now) refl r.now e.0 e.1
 
     -- a name that misleads
-    pub misleads_here : (c : InvocationFault) → BadName (meaning root recipes here name.now) one (goes_on one (texts (drop (at + 1) names))) (texts (take (at + 1) names)) (place_of here name.now) c →
+    pub misleads_here : (c : InvocationFault) → BadName (meaning root recipes here name.now) one (goes_on one (texts (drop (at + 1) names))) (texts (take (at + 1) names)) (absolute_path_of here name.now) c →
         WordsMislead root recipes root one [] (texts names) c
     misleads_here c p =
         misleads_on (meaning root recipes here name.now) refl c
         (bad_misleads (meaning root recipes here name.now) (λ next. WordsMislead root recipes next one (texts (take (at + 1) names)) (texts (drop (at + 1) names)) c)
-        one (goes_on one (texts (drop (at + 1) names))) (texts (take (at + 1) names)) (place_of here name.now) c p)
+        one (goes_on one (texts (drop (at + 1) names))) (texts (take (at + 1) names)) (absolute_path_of here name.now) c p)
 
   -- the names end where a walk stands
   none_after : (n : ℕ) → length names ≤ n → [] ≡ texts (drop n names)

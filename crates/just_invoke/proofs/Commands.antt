@@ -5,7 +5,7 @@ use Rattle.std.specs.HashSet.{HashSet, IsEmpty, contains}
 use Rattle.std.specs.List.{list_any}
 use Rattle.std.proofs.Math.Path.{fun_ext}
 use Rattle.std.proofs.lemmas.List.{append-nil}
-use Rattle.just_errors.specs.Halts.{come_to, error_of, without}
+use Rattle.just_errors.specs.Halts.{come_to, error_of, discard_value}
 use Rattle.just_errors.specs.declared.error.Error.{Error}
 use Rattle.just_errors.specs.declared.halt.Halt.{Halt}
 use Rattle.just_errors.specs.declared.halt.Halt.TheVariants.{Memory}
@@ -43,7 +43,7 @@ module _ (root : Justfile) (handed : Handed) (e : Inquiry → Option Answer) (h 
 
     -- they do, and then the steps of the program were taken, under more promises
     pub program-ran : (d : Inquiry → Option Answer) (k : Entry → Option Answer) → KeepsPromises e d → KeepsPromises h k → (opened : List Opened) (mid : Log) → OpensLazily e h handed root set old mid (Ok opened) → AreLazyModules root set opened → executed_in mid ≡ executed_in old →
-        (ended : Result Report Halt) → result ≡ come_to ended → IfOk ended (λ report. report.calls.items ≡ []) → (without ended ≡ Err Memory → new.entries ≡ mid.entries) → HasTrace (both d k) (program_steps handed.config root program opened) mid new (without ended) → executed_in new ≡ executed_in mid →
+        (ended : Result Report Halt) → result ≡ come_to ended → IfOk ended (λ report. report.calls.items ≡ []) → (discard_value ended ≡ Err Memory → new.entries ≡ mid.entries) → HasTrace (both d k) (program_steps handed.config root program opened) mid new (discard_value ended) → executed_in new ≡ executed_in mid →
         IsProgramRun root handed e h program old new result
     program-ran d k more host opened mid opens lazy before ended is uncounted uncalled taken after =
         ran opened mid ended is uncounted uncalled
@@ -52,7 +52,7 @@ module _ (root : Justfile) (handed : Handed) (e : Inquiry → Option Answer) (h 
           are = subst (λ used. AreLazyModules root used opened) none lazy;
           unexecuted = before;
         })
-        (took-kept (both e h) (both d k) (keeps-both e d h k more host) (program_steps handed.config root program opened) mid new (without ended) taken)
+        (took-kept (both e h) (both d k) (keeps-both e d h k more host) (program_steps handed.config root program opened) mid new (discard_value ended) taken)
         (after ∙ before)
 
   -- so the steps of the form were taken
@@ -66,6 +66,6 @@ module _ (root : Justfile) (handed : Handed) (e : Inquiry → Option Answer) (h 
   program-expected (ran opened mid ended is uncounted uncalled has taken executed) = λ sets needs ps order f promised. (
     ended,
     is,
-    took-steady (both e h) f (whole_program_steps sets handed root ps program) old new (without ended) promised
-        (took-then (both e h) (both e h) (keeps-self (both e h)) (all_opened sets handed ps) (program_steps handed.config root program) old mid new opened (without ended) (has.steps sets needs ps order) taken),
+    took-steady (both e h) f (whole_program_steps sets handed root ps program) old new (discard_value ended) promised
+        (took-then (both e h) (both e h) (keeps-self (both e h)) (all_opened sets handed ps) (program_steps handed.config root program) old mid new opened (discard_value ended) (has.steps sets needs ps order) taken),
   )

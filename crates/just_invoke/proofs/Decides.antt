@@ -15,7 +15,7 @@ use Rattle.just_justfile.specs.Closed.{HeldRecipes, default_recipe, resolved_nam
 use Rattle.just_invoke.specs.Cause.{InvocationFault, with_recipe, unknown_recipe, unknown_submodule, expected_submodule, recipe_disabled, alias_disabled, module_absent, no_recipes, no_default, default_requires}
 use Rattle.just_invoke.specs.Words.{IsPathWord, has_colon, is_empty}
 use Rattle.just_invoke.specs.Meaning.{Meaning, a_module, a_recipe, disabled_recipe, disabled_alias, absent_module, nothing, meaning}
-use Rattle.just_invoke.specs.Head.{NoDefault, MeaningLeads, MeaningMisleads, goes_on, place_of, WordsLead, WordsMislead, NoPath, NoHead, IsHead, PathLeads}
+use Rattle.just_invoke.specs.Head.{NoDefault, MeaningLeads, MeaningMisleads, goes_on, absolute_path_of, WordsLead, WordsMislead, NoPath, NoHead, IsHead, PathLeads}
 use Rattle.just_invoke.specs.Split.{Counts, Invoked, Invokes, Chain, IsSplit, NoInvocation, HasWordsFault}
 use Rattle.just_invoke.proofs.Unique.{invokes_takes}
 use Rattle.just_invoke.proofs.Readings.{ReadingOr, AreUtf8, reading_or_stop}
@@ -74,7 +74,7 @@ leads_or root recipes here one path [] = elim (default_or (out-Justfile here).re
 ]
 leads_or root recipes here one path (n ∷ ns) =
     elim (step_or (meaning root recipes here n) (λ head rest r next. WordsLead root recipes next head rest r) (λ cause next. WordsMislead root recipes next one (path ++ n ∷ []) ns cause)
-    one (goes_on one ns) (path ++ n ∷ []) (place_of here n) ns (ends_all one ns)
+    one (goes_on one ns) (path ++ n ∷ []) (absolute_path_of here n) ns (ends_all one ns)
     (λ next. leads_or root recipes next one (path ++ n ∷ []) ns)) [
       | inl (head, rest, r, e, all, p) ↦ inl (n ∷ head, rest, r, ap (λ t. n ∷ t) e, all, p)
       | inr q ↦ inr q

@@ -13,7 +13,7 @@ use Rattle.just_justfile.specs.Closed.{HeldRecipes, default_recipe, resolved_nam
 use Rattle.just_invoke.specs.Cause.{InvocationFault, with_recipe}
 use Rattle.just_invoke.specs.Words.{has_colon, is_empty}
 use Rattle.just_invoke.specs.Meaning.{Meaning, a_module, a_recipe, disabled_recipe, disabled_alias, absent_module, nothing, meaning}
-use Rattle.just_invoke.specs.Head.{NoDefault, MeaningLeads, MeaningMisleads, goes_on, place_of, WordsLead, WordsMislead, NoPath, NoHead, IsHead, PathLeads}
+use Rattle.just_invoke.specs.Head.{NoDefault, MeaningLeads, MeaningMisleads, goes_on, absolute_path_of, WordsLead, WordsMislead, NoPath, NoHead, IsHead, PathLeads}
 use Rattle.just_invoke.specs.Split.{Counts, RecipeTakesArguments, NoArguments, Invoked, Invokes, Chain, IsSplit, Rejects, NoInvocation, HasWordsFault}
 use Rattle.just_invoke.proofs.Unique.{path_word_once, head_once, invokes_once}
 use Rattle.just_invoke.proofs.Readings.{reading_no_stop, stop_once}
@@ -40,7 +40,7 @@ misleads_once : (root : Justfile) (recipes : HeldRecipes) (here : Justfile) (one
 misleads_once root recipes here one path [] c d p q = no_default_once (out-Justfile here).recipes (default_recipe here recipes) c d p q
 misleads_once root recipes here one path (n ∷ ns) c d p q =
     misleads_step (meaning root recipes here n) (λ next. WordsMislead root recipes next one (path ++ n ∷ []) ns c) (λ next. WordsMislead root recipes next one (path ++ n ∷ []) ns d)
-    one (goes_on one ns) (path ++ n ∷ []) (place_of here n) c d
+    one (goes_on one ns) (path ++ n ∷ []) (absolute_path_of here n) c d
     (λ next. misleads_once root recipes next one (path ++ n ∷ []) ns c d) p q
 
 not_on : (one : Bool) (a : Words) → (one ≡ true → a ≡ []) → goes_on one a ≡ false
@@ -66,7 +66,7 @@ no_leads root recipes here one path [] a r c h p q =
     (subst (λ o. NoDefault (out-Justfile here).recipes o c) p.1.0 (subst (λ t. WordsMislead root recipes here one path t c) p.0 q)).0 p.1.1
 no_leads root recipes here one path (n ∷ ns) a r c h p q =
     leads_no_step (meaning root recipes here n) (λ next. WordsLead root recipes next ns a r) (λ next. WordsMislead root recipes next one (path ++ n ∷ []) (ns ++ a) c)
-    one (goes_on one (ns ++ a)) (path ++ n ∷ []) (place_of here n) ns r c
+    one (goes_on one (ns ++ a)) (path ++ n ∷ []) (absolute_path_of here n) ns r c
     (λ none. ap (λ t. goes_on one (t ++ a)) none ∙ not_on one a h)
     (λ next. no_leads root recipes next one (path ++ n ∷ []) ns a r c h) p q
 

@@ -1,7 +1,7 @@
 -- The whole run, put together from its parts.
 use Rattle.std.proofs.Common.{◌≡◌, ◌∙◌, List, [], ◌∷◌, Option, Ok, Err, refl, sym, ap, subst, inl, inr}
 use Rattle.std.specs.Prelude.{Result}
-use Rattle.just_errors.specs.Halts.{come_to, without}
+use Rattle.just_errors.specs.Halts.{come_to, discard_value}
 use Rattle.just_errors.specs.declared.error.Error.{Error}
 use Rattle.just_errors.specs.declared.halt.Halt.{Halt}
 use Rattle.just_errors.specs.declared.halt.Halt.TheVariants as halt
@@ -72,7 +72,7 @@ is-whole e h setup root recipes ts old new result (shut d is opens executed) =
 is-whole e h setup root recipes ts old new result (ran opened mid ended is has run runs) = (
   ended,
   is,
-  λ sets needs ps order f steady even. whole-follows (both e h) f (λ opened. expected_steps (scene_of setup recipes opened) f ts) (all_opened sets setup.handed ps) old mid new opened (without ended)
+  λ sets needs ps order f steady even. whole-follows (both e h) f (λ opened. expected_steps (scene_of setup recipes opened) f ts) (all_opened sets setup.handed ps) old mid new opened (discard_value ended)
       (has.steps sets needs ps order) steady (λ comes steady. runs.expected f steady (even opened comes)),
 )
 

@@ -2,7 +2,7 @@
 use Rattle.std.specs.Prelude.{◌≡◌, pos, Bool, true, false, if◌then◌else◌, cond, List, [], Option, Some, None, Result, Ok, Err, IfOk}
 use Rattle.std.specs.Ordering.{int_eq}
 use Rattle.just_ast_expressions.specs.declared.interpreter.Interpreter.{Interpreter}
-use Rattle.just_errors.specs.Halts.{come_to, error_of, without}
+use Rattle.just_errors.specs.Halts.{come_to, error_of, discard_value}
 use Rattle.just_errors.specs.declared.error.Error.{Error}
 use Rattle.just_errors.specs.declared.halt.Halt.{Halt}
 use Rattle.just_errors.specs.declared.halt.Halt.TheVariants.{Memory}
@@ -27,7 +27,7 @@ use Rattle.just_run_layers.specs.declared.host.Entry.TheVariants as entry
 use Rattle.just_run_layers.specs.declared.run_answer.RunAnswer.{RunAnswer}
 use Rattle.just_scopes.specs.Need.{AreNeedsFrom, NumberSets}
 use Rattle.just_scopes.specs.Open.{OpensLazily}
-use Rattle.just_scopes.specs.Opening.{Handed, Inherited, Opened, all_opened, folder_of, hands, opened_at}
+use Rattle.just_scopes.specs.Opening.{Handed, Inherited, Opened, all_opened, working_folder_of, hands, opened_at}
 use Rattle.just_scopes.specs.Preorder.{IsPreorderUnder, Placed}
 use Rattle.just_invoke.specs.Lazily.{HasOpenedLazily, no_numbers}
 
@@ -50,7 +50,7 @@ command_call config root program changes = record {
   binary = program.binary;
   arguments = program.arguments;
   shell = shell_for config root;
-  working_directory = Some (folder_of config.working_directory root);
+  working_directory = Some (working_folder_of config.working_directory root);
   environment = changes;
 }
 
@@ -93,8 +93,8 @@ program_steps config root program opened =
 pub data IsProgramRun (root : Justfile) (handed : Handed) (evaluator : Inquiry → Option Answer) (host : Entry → Option Answer) (program : ProgramAsked) (old new : Log) (result : Result Report Error) : Type 0 where
   shut : (e : Halt) → result ≡ Err (error_of e) → OpensLazily evaluator host handed root no_numbers old new (Err e) → executed_in new ≡ executed_in old →
       IsProgramRun root handed evaluator host program old new result
-  ran : (opened : List Opened) (mid : Log) (ended : Result Report Halt) → result ≡ come_to ended → IfOk ended (λ report. report.calls.items ≡ []) → (without ended ≡ Err Memory → new.entries ≡ mid.entries) →
-      HasOpenedLazily evaluator host handed root no_numbers old mid opened → HasTrace (both evaluator host) (program_steps handed.config root program opened) mid new (without ended) → executed_in new ≡ executed_in old →
+  ran : (opened : List Opened) (mid : Log) (ended : Result Report Halt) → result ≡ come_to ended → IfOk ended (λ report. report.calls.items ≡ []) → (discard_value ended ≡ Err Memory → new.entries ≡ mid.entries) →
+      HasOpenedLazily evaluator host handed root no_numbers old mid opened → HasTrace (both evaluator host) (program_steps handed.config root program opened) mid new (discard_value ended) → executed_in new ≡ executed_in old →
       IsProgramRun root handed evaluator host program old new result
 
 -- the steps of the form: by sets of what is needed the modules are opened in order, and then the program runs
@@ -107,4 +107,4 @@ IsProgramRunAsExpected root handed evaluator host program old new result =
     (sets : NumberSets) → AreNeedsFrom no_numbers root sets → (ps : List Placed) → IsPreorderUnder true root ps → (f : Question → Answer) →
     ArePromised (both evaluator host) f (trace_under f (whole_program_steps sets handed root ps program)) →
     (ended : Result Report Halt) × (result ≡ come_to ended) ×
-    IsTraceOrPrefix (trace_under f (whole_program_steps sets handed root ps program)) (result_under f (whole_program_steps sets handed root ps program)) old new (without ended)
+    IsTraceOrPrefix (trace_under f (whole_program_steps sets handed root ps program)) (result_under f (whole_program_steps sets handed root ps program)) old new (discard_value ended)

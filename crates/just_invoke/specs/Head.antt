@@ -67,15 +67,15 @@ MeaningMisleads nothing On one true path place cause = cause ≡ unknown_submodu
 MeaningMisleads nothing On one false path place cause = cause ≡ unknown_recipe (text_of path (not one))
 
 -- the path of a name in a module, from the root
-abbrev pub place_of : Justfile → Text → Text
-place_of here name = path_text (path_on (out-Justfile here).module_path name)
+abbrev pub absolute_path_of : Justfile → Text → Text
+absolute_path_of here name = path_text (path_on (out-Justfile here).module_path name)
 
 -- why the names lead from a module to no recipe, after those of `path`; `one` says that they are one word
 abbrev pub WordsMislead : Justfile → HeldRecipes → Justfile → Bool → Words → Words → InvocationFault → Type 0
 WordsMislead root recipes here one path [] cause = NoDefault (out-Justfile here).recipes (default_recipe here recipes) cause
 WordsMislead root recipes here one path (n ∷ ns) cause =
     MeaningMisleads (meaning root recipes here n) (λ next. WordsMislead root recipes next one (path ++ n ∷ []) ns cause)
-    one (goes_on one ns) (path ++ n ∷ []) (place_of here n) cause
+    one (goes_on one ns) (path ++ n ∷ []) (absolute_path_of here n) cause
 
 -- why the word is no path to a recipe
 abbrev pub NoPath : Justfile → HeldRecipes → Bool → Text → InvocationFault → Type 0

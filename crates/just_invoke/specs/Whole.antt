@@ -1,6 +1,6 @@
 -- The whole run: the modules are opened, and then the tasks run in them.
 use Rattle.std.specs.Prelude.{◌≡◌, List, length, Option, Result, Ok}
-use Rattle.just_errors.specs.Halts.{without}
+use Rattle.just_errors.specs.Halts.{discard_value}
 use Rattle.just_errors.specs.declared.halt.Halt.{Halt}
 use Rattle.just_execution.specs.TaskInteractions.{interactions_of}
 use Rattle.just_execution.specs.Reports.{expected_steps}
@@ -39,4 +39,4 @@ abbrev pub IsWholeRun : (Inquiry → Option Answer) → (Entry → Option Answer
 IsWholeRun evaluator host setup root recipes ts old new ended =
     (sets : NumberSets) → AreNeeds setup.syntax root recipes ts sets → (ps : List Placed) → IsPreorder root ps → (f : Question → Answer) →
     ArePromised (both evaluator host) f (trace_under f (whole_steps sets setup recipes ps f ts)) → PriorsIgnoreFlagIn sets setup recipes ps f ts →
-    IsTraceOrPrefix (trace_under f (whole_steps sets setup recipes ps f ts)) (result_under f (whole_steps sets setup recipes ps f ts)) old new (without ended)
+    IsTraceOrPrefix (trace_under f (whole_steps sets setup recipes ps f ts)) (result_under f (whole_steps sets setup recipes ps f ts)) old new (discard_value ended)

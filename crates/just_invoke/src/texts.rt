@@ -1,7 +1,7 @@
 //! Paths, as refusals tell them.
 ghost use Rattle.std.specs.Prelude.{◌≡◌, IfOk, string_bytes};
 ghost use Rattle.just_names.specs.Texts.{separator_of, text_of, texts};
-ghost use Rattle.just_invoke.specs.Head.{place_of};
+ghost use Rattle.just_invoke.specs.Head.{absolute_path_of};
 ghost use Rattle.just_invoke.specs.Meaning.{path_text, path_texts};
 
 use just_data::{Sequence, Text};
@@ -67,7 +67,7 @@ pub(crate) fn place_text<'src>(
     here: &Justfile<'src>,
     name: &str,
 ) -> Result<Text, AllocError>
-    ensures { IfOk result (λ text. text ≡ place_of here.now name.now) }
+    ensures { IfOk result (λ text. text ≡ absolute_path_of here.now name.now) }
 {
     let path = here.module_path.join(name)?;
     path_text(alloc, &path)

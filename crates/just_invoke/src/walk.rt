@@ -10,7 +10,7 @@ ghost use Rattle.just_justfile.specs.declared.justfile.Justfile.{out-Justfile};
 ghost use Rattle.just_invoke.specs.Cause.{cause_of, IsOfWords};
 ghost use Rattle.just_invoke.specs.Meaning.{meaning};
 ghost use Rattle.just_invoke.specs.loops.Meaning.{meaning_of};
-ghost use Rattle.just_invoke.specs.Head.{goes_on, place_of, TakesDefault, NoDefault, WordsLead, WordsMislead};
+ghost use Rattle.just_invoke.specs.Head.{goes_on, absolute_path_of, TakesDefault, NoDefault, WordsLead, WordsMislead};
 ghost use Rattle.just_invoke.specs.loops.Head.{BadName, IsStep, IsEnd, IsNoEnd};
 
 use crate::lookup::{Found, look_up};
@@ -103,7 +103,7 @@ fn take_name<'run, 'src>(
     name: &str,
 ) -> Result<Step<'run, 'src>, Error<'src>>
     ensures ok { IfOk result (λ s. IsStep (meaning_of found.entry) go s) }
-    ensures err { IfErr result (λ e. IfSome (cause_of e) (BadName (meaning_of found.entry) one go (texts path.now) (place_of here.now name.now))) }
+    ensures err { IfErr result (λ e. IfSome (cause_of e) (BadName (meaning_of found.entry) one go (texts path.now) (absolute_path_of here.now name.now))) }
     ensures words { IfErr result (λ e. IsOfWords e) }
 {
     match found {
@@ -171,7 +171,7 @@ fn next_step<'run, 'src>(
     requires root { AreModulesOrdered root.now }
     requires here { AreModulesOrdered here.now }
     ensures ok { IfOk result (λ s. IsStep (meaning root.now recipes.now here.now name.now) go s) }
-    ensures err { let bad = BadName (meaning root.now recipes.now here.now name.now) one go (texts path.now) (place_of here.now name.now) in
+    ensures err { let bad = BadName (meaning root.now recipes.now here.now name.now) one go (texts path.now) (absolute_path_of here.now name.now) in
         IfErr result (λ e. IfSome (cause_of e) bad) }
     ensures words { IfErr result (λ e. IsOfWords e) }
 {

@@ -16,7 +16,7 @@ use Rattle.just_parts.specs.Needs.{IsNumberIn, Needs, has_number, overridden_by}
 use Rattle.just_parts.specs.Reading.{IsEvaluationOrder, Reads}
 use Rattle.just_parts.specs.Scopes.{Scoped, scopes_of}
 use Rattle.just_parts.specs.Syntax.{SyntaxAnswers}
-use Rattle.just_recipe.specs.Grouping.{joined}
+use Rattle.just_recipe.specs.Grouping.{concatenated}
 use Rattle.just_recipe.specs.declared.dependency.Dependency.{Dependency}
 use Rattle.just_recipe.specs.declared.dependency.DependencyArgument.{DependencyArgument}
 use Rattle.just_recipe.specs.declared.recipe.Recipe.{Recipe}
@@ -30,7 +30,7 @@ known_by_tables j = sources (out-Justfile j).assignments (out-Justfile j).functi
 
 -- the arguments of a dependency, one after another
 abbrev pub arguments_of : Dependency → List DependencyArgument
-arguments_of d = joined d.arguments
+arguments_of d = concatenated d.arguments
 
 -- A recipe reads a variable of a module: one of its expressions does, where the names that are hidden in its scope are left out.
 pub record IsReadBy (answers : SyntaxAnswers) (j : Justfile) (r : Recipe Dependency) (name : Text) : Type 0 where

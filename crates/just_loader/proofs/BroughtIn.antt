@@ -3,7 +3,7 @@ use Rattle.std.proofs.Common.{◌≡◌, ℕ, List, [], ◌∷◌, ◌++◌, map
 use Rattle.std.specs.List.{All, Contains}
 use Rattle.std.proofs.lemmas.List.Elements.{All-map, All-weaker}
 use Rattle.just_parts.specs.Bare.{ast_of_items, bare_ast, bare_item}
-use Rattle.just_parts.specs.Syntax.{SyntaxAnswers, AttributesNameParameters, ItemCameBy, PriorsAreDependencies, item_numbers, numbers}
+use Rattle.just_parts.specs.Syntax.{SyntaxAnswers, AttributesNameParameters, ItemCameBy, PriorsAreDependencies, item_numbers, numbers_of_items}
 use Rattle.just_parts.specs.Items.{Ast, Item}
 use Rattle.just_ast_items.specs.declared.item.Item.TheVariants as item
 use Rattle.just_source.specs.declared.source.Source.{Source}
@@ -34,17 +34,17 @@ bare_items : (source : Source) (is : List Item) → map bare_item (map (brought_
 bare_items source [] = refl
 bare_items source (i ∷ is) = ap (λ x. x ∷ map bare_item (map (brought_in source) is)) (same_bare source i) ∙ ap (λ xs. bare_item i ∷ xs) (bare_items source is)
 
-items_numbers : (source : Source) (is : List Item) → numbers (map (brought_in source) is) ≡ numbers is
+items_numbers : (source : Source) (is : List Item) → numbers_of_items (map (brought_in source) is) ≡ numbers_of_items is
 items_numbers source [] = refl
-items_numbers source (i ∷ is) = ap (λ ns. ns ++ numbers (map (brought_in source) is)) (same_numbers source i) ∙ ap (λ ns. item_numbers i ++ ns) (items_numbers source is)
+items_numbers source (i ∷ is) = ap (λ ns. ns ++ numbers_of_items (map (brought_in source) is)) (same_numbers source i) ∙ ap (λ ns. item_numbers i ++ ns) (items_numbers source is)
 
 -- what holds of each item
 each : (P Q : Item → Type 0) (source : Source) → ((i : Item) → P i → Q (brought_in source i)) → (is : List Item) → All P is → All Q (map (brought_in source) is)
 each P Q source f is all = All-map Q (brought_in source) is (All-weaker P (λ i. Q (brought_in source i)) f is all)
 
 module _ (source : Source) (ast made : Ast) (is : IsBroughtIn source ast made) where
-  pub numbers_kept : numbers made.items ≡ numbers ast.items
-  numbers_kept = ap numbers is.items ∙ items_numbers source ast.items
+  pub numbers_kept : numbers_of_items made.items ≡ numbers_of_items ast.items
+  numbers_kept = ap numbers_of_items is.items ∙ items_numbers source ast.items
 
   bare_kept : bare_ast made ≡ bare_ast ast
   bare_kept = ap bare_ast is.rest ∙ ap (λ (xs : List Item). let a : Ast = record (ast_of_items xs) { unstable_features = ast.unstable_features; list_features = ast.list_features; warnings = ast.warnings } in a) (ap (map bare_item) is.items ∙ bare_items source ast.items)

@@ -23,7 +23,7 @@ use Rattle.just_loader.specs.FileCircles.{ChainTo, at_root, and_next, BreaksCirc
 use Rattle.just_loader.specs.loops.FileCircles.{HasRows, FileLeadsOn, by_edge, by_edges}
 use Rattle.just_loader.specs.Keys.{FileStep, end_of_link, items_at, steps_by, steps_of_file}
 use Rattle.just_loader.specs.loops.Placed.{file_at, text_step}
-use Rattle.just_loader.specs.Links.{Link, Nowhere, To, Fault, edge_link}
+use Rattle.just_loader.specs.Links.{Link, Unlinked, To, AtFault, edge_link}
 use Rattle.just_loader.specs.Reached.{World, IsReachedFile, from_root, from_file, items_of_file, link, FileLeadsTo}
 use Rattle.just_errors.specs.Causes.{LeadsBack}
 use Rattle.just_loader.specs.loops.Scanned.{IsScan, paths_in}
@@ -32,22 +32,22 @@ use Rattle.just_loader.specs.declared.scanned.ScannedFile.{ScannedFile}
 use Rattle.just_loader.proofs.FileRows.{at, said, steps_here}
 use Rattle.just_loader.proofs.Numberings.{got, read_at, some_same}
 
-no_link : (b : Bool) (path : List ℕ) → (if b then Nowhere else Nowhere) ≡ To path → ⊥
+no_link : (b : Bool) (path : List ℕ) → (if b then Unlinked else Unlinked) ≡ To path → ⊥
 no_link true path e = cc
 no_link false path e = cc
 
 -- an item that leads to a file has a step there
-step_of_link : (w : World) (folder path : List ℕ) (b : Bool) (e : Option Edge) → (if b then edge_link w.files w.home folder e else Nowhere) ≡ To path → (s : FileStep) × In s (steps_by e (To path)) × (s.to ≡ path)
+step_of_link : (w : World) (folder path : List ℕ) (b : Bool) (e : Option Edge) → (if b then edge_link w.files w.home folder e else Unlinked) ≡ To path → (s : FileStep) × In s (steps_by e (To path)) × (s.to ≡ path)
 step_of_link w folder path b (Some (Imports literal optional)) l = (record { to = path; offset = literal.token.offset; enters = None; name = None }, inl refl, refl)
 step_of_link w folder path b (Some (Declares name literal optional)) l = (record { to = path; offset = 0; enters = Some (text_of_name name); name = Some name }, inl refl, refl)
 step_of_link w folder path b None l = absurd (no_link b path l)
 
 -- and leads where its step does
 link_of_end : (l : Link) (path : List ℕ) → In path (end_of_link l) → l ≡ To path
-link_of_end Nowhere path h = absurd h
+link_of_end Unlinked path h = absurd h
 link_of_end (To p) path (inl e) = ap To (sym e)
 link_of_end (To p) path (inr h) = absurd h
-link_of_end (Fault c) path h = absurd h
+link_of_end (AtFault c) path h = absurd h
 
 link_of_step : (e : Option Edge) (l : Link) (s : FileStep) → In s (steps_by e l) → l ≡ To s.to
 link_of_step (Some (Imports literal optional)) l s h = let p = from_map _ s (end_of_link l) h in link_of_end l p.0 p.1 ∙ ap (λ (x : FileStep). To x.to) (sym p.2)

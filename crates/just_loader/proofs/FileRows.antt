@@ -17,7 +17,7 @@ use Rattle.just_names.specs.Texts.{Text}
 use Rattle.just_names.specs.declared.name.Name.{Name}
 use Rattle.just_parts.specs.Items.{Item}
 use Rattle.just_loader.specs.Keys.{FileStep, end_of_link, items_at, steps_by, steps_of_file}
-use Rattle.just_loader.specs.Links.{Link, Nowhere, To, Fault}
+use Rattle.just_loader.specs.Links.{Link, Unlinked, To, AtFault}
 use Rattle.just_loader.specs.loops.Placed.{file_at, name_at, text_step}
 use Rattle.just_loader.specs.loops.Numbering.{IsFirstAt, IsNamed, texts_of}
 use Rattle.just_loader.specs.Reached.{World, link}
@@ -29,14 +29,14 @@ use Rattle.just_loader.proofs.WholeScans.{one_target, row_at}
 
 -- where links lead
 pub no_end : (paths : List Text) (l : Link) → IsPlaceOf paths l None → end_of_link l ≡ []
-no_end paths Nowhere h = refl
+no_end paths Unlinked h = refl
 no_end paths (To p) h = absurd h
-no_end paths (Fault c) h = refl
+no_end paths (AtFault c) h = refl
 
 pub one_end : (paths : List Text) (l : Link) (place : ℕ) → IsPlaceOf paths l (Some place) → end_of_link l ≡ get_or paths place [] ∷ []
-one_end paths Nowhere place h = absurd h
+one_end paths Unlinked place h = absurd h
 one_end paths (To p) place h = ap (λ x. x ∷ []) (sym (get_or_from_slice_get paths place p [] h))
-one_end paths (Fault c) place h = absurd h
+one_end paths (AtFault c) place h = absurd h
 
 module _ (scan : Scan) where
   abbrev paths : List Text

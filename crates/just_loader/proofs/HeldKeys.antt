@@ -20,7 +20,7 @@ use Rattle.just_paths.specs.declared.modulepath.Modulepath.{Modulepath}
 use Rattle.just_source.specs.declared.source.Source.{Source}
 use Rattle.just_loader.specs.Keys.{FileKey, FileNode, FileStep, IsKey, IsLeastFileDepth, ast_key, end_of_link, items_at, root_file_key, steps_by, steps_of_file}
 use Rattle.just_loader.specs.loops.Keys.{key_of_ast}
-use Rattle.just_loader.specs.Links.{Link, Nowhere, To, Fault}
+use Rattle.just_loader.specs.Links.{Link, Unlinked, To, AtFault}
 use Rattle.just_loader.specs.Loaded.{IsAstOf, IsLoaded, path_of_link, with_path}
 use Rattle.just_loader.specs.Reached.{World, items_said, link}
 use Rattle.just_loader.proofs.Numberings.{none_some, some_same}
@@ -43,9 +43,9 @@ located_all w folder source [] all = refl
 located_all w folder source (i ∷ is) all = λ j. located_one w folder source i (all i (inl refl)) j ∷ located_all w folder source is (λ x h. all x (inr h)) j
 
 end_is : (l : Link) (path : Text) → path_of_link l ≡ Some path → end_of_link l ≡ path ∷ []
-end_is Nowhere path e = absurd (none_some e)
+end_is Unlinked path e = absurd (none_some e)
 end_is (To p) path e = ap (λ x. x ∷ []) (some_same e)
-end_is (Fault c) path e = absurd (none_some e)
+end_is (AtFault c) path e = absurd (none_some e)
 
 -- the step of an item that leads to a path
 record Led (w : World) (folder : Text) (m : Modulepath) (i : Item) (path : Text) : Type 0 where

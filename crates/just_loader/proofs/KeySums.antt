@@ -3,7 +3,7 @@ use Rattle.std.proofs.Common.{◌≡◌, ℕ, suc, length, ◌+◌, ◌<◌, ◌
 use Rattle.std.specs.List.{Contains, slice_get, sum_by}
 use Rattle.std.proofs.lemmas.List.Sums.{sum_by-cons}
 use Rattle.just_graph.specs.Unfolding.{IsReachedKey, steps}
-use Rattle.just_graph.specs.Unfolded.{unfolded_key, AreApart, AreReached}
+use Rattle.just_graph.specs.Unfolded.{unfolded_key, AreDistinct, AreReached}
 use Rattle.just_graph.specs.declared.unfolding.Unfolded.{Unfolded}
 use Rattle.just_graph.proofs.Members.{In, contained, is_in, in_cases, in_map, without}
 use Rattle.just_errors.specs.Causes.{Cause, NoNumber, Keeps}
@@ -20,7 +20,7 @@ use Rattle.just_loader.proofs.FileKeys.{file_key, from_key, same_keys, stands, t
 use Rattle.just_loader.proofs.Numberings.{got, placed, get_map, map_get}
 
 -- what has each element of another list, where that has none twice, has no smaller sum
-sums : {A : Type 0} (g : A → ℕ) (these those : List A) → AreApart these → ((x : A) → In x these → In x those) → sum_by g these ≤ sum_by g those
+sums : {A : Type 0} (g : A → ℕ) (these those : List A) → AreDistinct these → ((x : A) → In x these → In x those) → sum_by g these ≤ sum_by g those
 sums g [] those once all = omega arith
 sums {A} g (x ∷ these) those once all =
     let r = without x those (all x (inl refl)) in
@@ -59,7 +59,7 @@ not_there None e h = cc
 not_there (Some x) e h = cc
 
 -- the nodes of an unfolding, by the texts of their keys
-module _ (w : World) (scan : Scan) (is : IsScan w scan) (us : List Unfolded) (keys : AreReached (steps scan.rows.items) 0 (map unfolded_key us)) (apart : AreApart (map unfolded_key us)) where
+module _ (w : World) (scan : Scan) (is : IsScan w scan) (us : List Unfolded) (keys : AreReached (steps scan.rows.items) 0 (map unfolded_key us)) (apart : AreDistinct (map unfolded_key us)) where
   abbrev key_of : Unfolded → FileKey
   key_of u = file_key scan (unfolded_key u)
 
@@ -78,7 +78,7 @@ module _ (w : World) (scan : Scan) (is : IsScan w scan) (us : List Unfolded) (ke
       let one = same_keys w scan is (unfolded_key u) (unfolded_key v) (reached i u e) (reached j v f) same in
       apart i j (unfolded_key u) (map_get unfolded_key us i u e) (map_get unfolded_key us j v f ∙ ap Some (sym one))
 
-  each_once : (n : ℕ) → AreApart (map key_of (take n us))
+  each_once : (n : ℕ) → AreDistinct (map key_of (take n us))
   each_once n i j k e f =
       let u = get_map key_of (take n us) i k e in
       let v = get_map key_of (take n us) j k f in
@@ -104,7 +104,7 @@ module _ (w : World) (scan : Scan) (is : IsScan w scan) (us : List Unfolded) (ke
       subst (λ x. In x (map key_of us)) (ap (file_key scan) u.2 ∙ s.2) (in_map key_of u.0 us (is_in u.0 us (got us at.0 u.0 u.1)))
 
   -- no texts of keys take too many
-  few : sum_by takes us ≤ 2 ^ 64 → (these : List FileKey) → AreApart these → ((k : FileKey) → Contains these k → IsKey w k) → 2 ^ 64 < sum_by (λ (k : FileKey). spends_at w k.node) these → ⊥
+  few : sum_by takes us ≤ 2 ^ 64 → (these : List FileKey) → AreDistinct these → ((k : FileKey) → Contains these k → IsKey w k) → 2 ^ 64 < sum_by (λ (k : FileKey). spends_at w k.node) these → ⊥
   few total these once are h =
       let less = sums (λ (k : FileKey). spends_at w k.node) these (map key_of us) once (λ k i. has_key k (are k (contained k these i))) in
       omega (arith, total, h, less, sum_map (λ (k : FileKey). spends_at w k.node) key_of us)

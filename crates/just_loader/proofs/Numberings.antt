@@ -8,7 +8,7 @@ use Rattle.std.proofs.lemmas.List.{map-append, length-map}
 use Rattle.std.specs.HashMap.{get}
 pub use Rattle.just_graph.proofs.Told.{at_least as read_at, get_old as get_more, get_last}
 pub use Rattle.just_graph.proofs.Index.{got_in as got, map_get, none_some, some_same}
-use Rattle.just_graph.specs.Unfolded.{AreApart}
+use Rattle.just_graph.specs.Unfolded.{AreDistinct}
 use Rattle.just_names.specs.Name.{text_of_name}
 use Rattle.just_names.specs.declared.name.Name.{Name}
 use Rattle.just_loader.specs.Sources.{Files}
@@ -34,7 +34,7 @@ pub placed : {A : Type 0} (xs : List A) (x : A) → Contains xs x → (k : ℕ) 
 placed xs x c = (c.0, slice_get_read xs (length xs) c.0 x refl c.1 (sym c.2))
 
 -- no text stands at two places of a numbering
-pub once : (texts : List (List ℕ)) (numbers : List ℕ → Option ℕ) → IsNumbering texts numbers → AreApart texts
+pub once : (texts : List (List ℕ)) (numbers : List ℕ → Option ℕ) → IsNumbering texts numbers → AreDistinct texts
 once texts numbers n i j t e f = some_same (sym ((n t i).0 e) ∙ (n t j).0 f)
 
 pub numbering_more : (texts more : List (List ℕ)) (old new : List ℕ → Option ℕ) (t : List ℕ) → IsNumbering texts old → old t ≡ None → new t ≡ Some (length texts) → ((q : List ℕ) → bytes_eq t q ≡ false → new q ≡ old q)

@@ -4,7 +4,7 @@ use Rattle.std.specs.List.{Contains, slice_get}
 use Rattle.std.proofs.lemmas.List.{append_assoc, map-append}
 use Rattle.std.proofs.lemmas.Option.{slice_get_within}
 use Rattle.just_graph.proofs.Members.{In, is_in}
-use Rattle.just_parts.specs.Syntax.{SyntaxAnswers, AreRising, numbers}
+use Rattle.just_parts.specs.Syntax.{SyntaxAnswers, AreRising, numbers_of_items}
 use Rattle.just_parts.specs.Items.{Ast}
 use Rattle.just_loader.specs.loops.Reading.{AreApartBelow, AreRead, AreReadOf, GoesOn, IsRead, TakesText, is_read, spent_on, takes, was_read}
 use Rattle.just_loader.specs.declared.reading.ReadTexts.{ReadTexts}
@@ -48,18 +48,18 @@ get_right [] ys k y e = (k, omega arith, e)
 get_right (x ∷ xs) ys k y e = let r = get_right xs ys k y e in (suc r.0, omega (arith, r.1), r.2)
 
 -- one more text
-pub apart_more : (old new : List (Option Ast)) (ast : Ast) (low high : ℕ) → AreApartBelow old low → AreRising low (numbers ast.items) high → new ≡ old ++ Some ast ∷ [] → AreApartBelow new high
+pub apart_more : (old new : List (Option Ast)) (ast : Ast) (low high : ℕ) → AreApartBelow old low → AreRising low (numbers_of_items ast.items) high → new ≡ old ++ Some ast ∷ [] → AreApartBelow new high
 apart_more old new ast low high so rises is =
     let cases : (k : ℕ) (a : Ast) → slice_get new k ≡ Some (Some a) → (slice_get old k ≡ Some (Some a)) ⊎ ((k ≡ length old) × (Some ast ≡ Some a)) = λ k a e. get_cases old (Some ast) (Some a) k (ap (λ xs. slice_get xs k) (sym is) ∙ e) in
-    let later : (k : ℕ) (a : Ast) (n : ℕ) → slice_get old k ≡ Some (Some a) → Contains (numbers a.items) n → (b : Ast) → Some ast ≡ Some b → Contains (numbers b.items) n → ⊥ = λ k a n e x b f y.
+    let later : (k : ℕ) (a : Ast) (n : ℕ) → slice_get old k ≡ Some (Some a) → Contains (numbers_of_items a.items) n → (b : Ast) → Some ast ≡ Some b → Contains (numbers_of_items b.items) n → ⊥ = λ k a n e x b f y.
     let r = so.rising k a e in
-    let first = rising_within r.0 (numbers a.items) low n r.1 (is_in n (numbers a.items) x) in
-    let last = rising_within low (numbers ast.items) high n rises (is_in n (numbers ast.items) (subst (λ (z : Ast). Contains (numbers z.items) n) (sym (some_same f)) y)) in
+    let first = rising_within r.0 (numbers_of_items a.items) low n r.1 (is_in n (numbers_of_items a.items) x) in
+    let last = rising_within low (numbers_of_items ast.items) high n rises (is_in n (numbers_of_items ast.items) (subst (λ (z : Ast). Contains (numbers_of_items z.items) n) (sym (some_same f)) y)) in
     omega (arith, first.1, last.0) in
     record {
       rising = λ k a e. elim (cases k a e) [
-        | inl before ↦ let r = so.rising k a before in (r.0, rising_to r.0 (numbers a.items) low high (rising_on low (numbers ast.items) high rises) r.1)
-        | inr last ↦ (low, subst (λ (x : Ast). AreRising low (numbers x.items) high) (some_same last.1) rises)
+        | inl before ↦ let r = so.rising k a before in (r.0, rising_to r.0 (numbers_of_items a.items) low high (rising_on low (numbers_of_items ast.items) high rises) r.1)
+        | inr last ↦ (low, subst (λ (x : Ast). AreRising low (numbers_of_items x.items) high) (some_same last.1) rises)
       ];
       apart = λ i j a b n e f x y. elim (cases i a e) [
         | inl before ↦ elim (cases j b f) [
@@ -74,12 +74,12 @@ apart_more old new ast low high so rises is =
     }
 
 -- one that was there is put last
-pub apart_moved : (old new : List (Option Ast)) (p : ℕ) (was ast : Ast) (high : ℕ) → AreApartBelow old high → slice_get old p ≡ Some (Some was) → numbers ast.items ≡ numbers was.items → new ≡ set old p None ++ Some ast ∷ [] → AreApartBelow new high
+pub apart_moved : (old new : List (Option Ast)) (p : ℕ) (was ast : Ast) (high : ℕ) → AreApartBelow old high → slice_get old p ≡ Some (Some was) → numbers_of_items ast.items ≡ numbers_of_items was.items → new ≡ set old p None ++ Some ast ∷ [] → AreApartBelow new high
 apart_moved old new p was ast high so at same is =
     let cases : (k : ℕ) (a : Ast) → slice_get new k ≡ Some (Some a) → (slice_get (set old p None) k ≡ Some (Some a)) ⊎ ((k ≡ length (set old p None)) × (Some ast ≡ Some a)) =
     λ k a e. get_cases (set old p None) (Some ast) (Some a) k (ap (λ xs. slice_get xs k) (sym is) ∙ e) in
-    let numbered : (a : Ast) → Some ast ≡ Some a → numbers a.items ≡ numbers was.items = λ a e. ap (λ (x : Ast). numbers x.items) (sym (some_same e)) ∙ same in
-    let other : (k : ℕ) (a b : Ast) (n : ℕ) → slice_get (set old p None) k ≡ Some (Some a) → Contains (numbers a.items) n → Some ast ≡ Some b → Contains (numbers b.items) n → ⊥ = λ k a b n e x f y.
+    let numbered : (a : Ast) → Some ast ≡ Some a → numbers_of_items a.items ≡ numbers_of_items was.items = λ a e. ap (λ (x : Ast). numbers_of_items x.items) (sym (some_same e)) ∙ same in
+    let other : (k : ℕ) (a b : Ast) (n : ℕ) → slice_get (set old p None) k ≡ Some (Some a) → Contains (numbers_of_items a.items) n → Some ast ≡ Some b → Contains (numbers_of_items b.items) n → ⊥ = λ k a b n e x f y.
     let s = still old p k a e in s.1 (so.apart k p a was n s.0 at x (subst (λ ns. Contains ns n) (numbered b f) y)) in
     record {
       rising = λ k a e. elim (cases k a e) [
@@ -174,7 +174,7 @@ module _ (answers : SyntaxAnswers) (files : List ScannedFile) (old new : ReadTex
   each_next ns (was_read was at same left given) each = λ k f ast e h. each k f ast e (still old.asts.items place k ast (subst (λ xs. slice_get xs k ≡ Some (Some ast)) left h)).0
   each_next ns (is_read same rises spent) each = λ k f ast e h. each k f ast e (subst (λ xs. slice_get xs k ≡ Some (Some ast)) same h)
 
-  pub apart_next : (asts more : List Ast) (ast : Ast) → more ≡ asts ++ ast ∷ [] → TakesText place (takes answers file) old new (numbers ast.items)
+  pub apart_next : (asts more : List Ast) (ast : Ast) → more ≡ asts ++ ast ∷ [] → TakesText place (takes answers file) old new (numbers_of_items ast.items)
       → AreApartBelow (old.asts.items ++ map Some asts) old.numerator → AreApartBelow (new.asts.items ++ map Some more) new.numerator
   apart_next asts more ast is (was_read was at same left given) so =
       let last : map Some more ≡ map Some asts ++ Some ast ∷ [] = ap (map Some) is ∙ map-append Some asts (ast ∷ []) in

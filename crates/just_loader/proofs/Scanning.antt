@@ -7,7 +7,7 @@ use Rattle.just_graph.specs.declared.unfolding.Step.{Step}
 use Rattle.just_names.specs.declared.name.Name.{Name}
 use Rattle.just_parts.specs.Items.{Item}
 use Rattle.just_ast_items.specs.Edge.{Edge, Imports, Declares, edge_of}
-use Rattle.just_loader.specs.Links.{Link, Nowhere, To, Fault}
+use Rattle.just_loader.specs.Links.{Link, Unlinked, To, AtFault}
 use Rattle.just_loader.specs.loops.Scanned.{IsPlaceOf, ArePlacesOf, IsStepTo, IsStepOf, AreSteps, Grows, Extends, HasFault}
 use Rattle.just_errors.specs.Causes.{Cause}
 use Rattle.just_loader.proofs.Numberings.{get_more, map_get, got, named_more}
@@ -15,11 +15,11 @@ use Rattle.std.proofs.lemmas.Option.{slice_get_read}
 
 -- more files are found
 pub place_more : (old more : List (List ℕ)) (l : Link) (t : Option ℕ) → IsPlaceOf old l t → IsPlaceOf (old ++ more) l t
-place_more old more Nowhere None p = tt
-place_more old more Nowhere (Some k) p = absurd p
+place_more old more Unlinked None p = tt
+place_more old more Unlinked (Some k) p = absurd p
 place_more old more (To path) None p = absurd p
 place_more old more (To path) (Some k) p = get_more old more k path p
-place_more old more (Fault c) t p = absurd p
+place_more old more (AtFault c) t p = absurd p
 
 pub places_more : (old more : List (List ℕ)) (ls : List Link) (ts : List (Option ℕ)) → ArePlacesOf old ls ts → ArePlacesOf (old ++ more) ls ts
 places_more old more [] [] p = tt
@@ -90,7 +90,7 @@ targets_step L items i x old mid new ts more t h is places grows place one e =
     )
 
 -- the fault of one of the items is a fault of a link
-pub fault_among : (L : Item → Link) (items : List Item) (i : ℕ) (x : Item) → i < length items → x ≡ get_or items i x → (cause : Cause) → L x ≡ Fault cause → HasFault (map L items) cause
+pub fault_among : (L : Item → Link) (items : List Item) (i : ℕ) (x : Item) → i < length items → x ≡ get_or items i x → (cause : Cause) → L x ≡ AtFault cause → HasFault (map L items) cause
 fault_among L items i x h is cause at_fault = subst (Contains (map L items)) at_fault (contains_map L items i x h is)
 
 pub row_step : (items : List Item) (targets : List (Option ℕ)) (i : ℕ) (x : Item) (t : Option ℕ) (old mid new : List Name) (row more : List Step) → i < length items → length targets ≡ length items → x ≡ get_or items i x → t ≡ get_or targets i t

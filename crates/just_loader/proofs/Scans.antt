@@ -12,8 +12,8 @@ use Rattle.just_parts.specs.Syntax.{Refuses}
 use Rattle.just_parts.specs.Items.{Item}
 use Rattle.just_errors.specs.declared.error.Error.{Error}
 use Rattle.just_errors.specs.declared.error.Error.TheVariants as error
-use Rattle.just_loader.specs.Links.{Link, Nowhere, To, Fault, edge_link, link_in}
-use Rattle.just_loader.specs.Reached.{World, relative_to_root, items_of_file, items_said, link, HasItem, FileLeadsTo, BreaksAt, no_grammar, no_number, in_item}
+use Rattle.just_loader.specs.Links.{Link, Unlinked, To, AtFault, edge_link, link_in}
+use Rattle.just_loader.specs.Reached.{World, relative_to_root, items_of_file, items_said, link, HasItem, FileLeadsTo, BreaksAt, no_grammar, out_of_numbers, in_item}
 use Rattle.just_errors.specs.Causes.{Cause, Broken, Reports}
 use Rattle.just_loader.specs.loops.Scanned.{ArePlacesOf, IsStepTo, IsStepOf, AreSteps, IsScanned}
 use Rattle.just_loader.specs.Sources.{Files, text_at}
@@ -24,7 +24,7 @@ use Rattle.just_loader.proofs.Numberings.{got, placed, get_map, map_get}
 
 -- a bare item leads where the item does
 link_bare : (files : Files) (home : Option (List ℕ)) (enabled : Item → Bool) (folder : List ℕ) (i : Item) → link_in files home enabled folder (bare_item i) ≡ link_in files home enabled folder i
-link_bare files home enabled folder i = λ j. if enabled (bare_twice i j) then edge_link files home folder (edge_bare i j) else Nowhere
+link_bare files home enabled folder i = λ j. if enabled (bare_twice i j) then edge_link files home folder (edge_bare i j) else Unlinked
 
 pub links_bare : (files : Files) (home : Option (List ℕ)) (enabled : Item → Bool) (folder : List ℕ) (items : List Item) → map (link_in files home enabled folder) (map bare_item items) ≡ map (link_in files home enabled folder) items
 links_bare files home enabled folder [] = refl
@@ -42,15 +42,15 @@ steps_bare names (i ∷ is) [] row s = absurd s
 steps_bare names (i ∷ is) (t ∷ ts) row s = (s.0, s.1, step_bare names i t s.0 s.2, steps_bare names is ts s.1 s.3, s.4)
 
 -- what has places has no fault
-no_fault : (paths : List (List ℕ)) (ls : List Link) (ts : List (Option ℕ)) (k : ℕ) (c : Cause) → ArePlacesOf paths ls ts → slice_get ls k ≡ Some (Fault c) → ⊥
+no_fault : (paths : List (List ℕ)) (ls : List Link) (ts : List (Option ℕ)) (k : ℕ) (c : Cause) → ArePlacesOf paths ls ts → slice_get ls k ≡ Some (AtFault c) → ⊥
 no_fault paths [] ts k c ps e = none_here e
   where
-    none_here : None ≡ Some (Fault c) → ⊥
+    none_here : None ≡ Some (AtFault c) → ⊥
     none_here e = cc
 no_fault paths (l ∷ ls) [] k c ps e = ps
-no_fault paths (Nowhere ∷ ls) (t ∷ ts) zero c ps e = cc
+no_fault paths (Unlinked ∷ ls) (t ∷ ts) zero c ps e = cc
 no_fault paths (To p ∷ ls) (t ∷ ts) zero c ps e = cc
-no_fault paths (Fault d ∷ ls) (t ∷ ts) zero c ps e = ps.0
+no_fault paths (AtFault d ∷ ls) (t ∷ ts) zero c ps e = ps.0
 no_fault paths (l ∷ ls) (t ∷ ts) (suc k) c ps e = no_fault paths ls ts k c ps.1 e
 
 module _ (w : World) (f : SourceFile) (file : find f.path w.files ≡ Some f) where
@@ -65,7 +65,7 @@ module _ (w : World) (f : SourceFile) (file : find f.path w.files ≡ Some f) wh
       subst (λ k. BreaksAt w f.path (Broken e.token k)) (sym h.kind) (no_grammar f.text text_there none (record { path_is = h.path ∙ r; src_is = h.src ∙ t }))
   refused_at relative text (error.Invocation e) r t h = absurd h
   refused_at relative text (error.Run e) r t h = absurd h
-  refused_at relative text error.Exhausted r t h = no_number f.text text_there (let same : w.answers.spends relative text ≡ w.answers.spends (relative_to_root w f.path) f.text = ap (w.answers.spends relative) t ∙ ap (λ x. w.answers.spends x f.text) r in omega (arith, same, h))
+  refused_at relative text error.Exhausted r t h = out_of_numbers f.text text_there (let same : w.answers.spends relative text ≡ w.answers.spends (relative_to_root w f.path) f.text = ap (w.answers.spends relative) t ∙ ap (λ x. w.answers.spends x f.text) r in omega (arith, same, h))
   refused_at relative text error.Memory r t h = tt
 
   pub refused_err : {A : Type 0} (relative text : List ℕ) (r : Result A Error) → relative ≡ relative_to_root w f.path → text ≡ f.text → IfErr r (Refuses w.answers relative text 0) → IfErr r (Reports (BreaksAt w f.path))
@@ -89,8 +89,8 @@ module _ (w : World) (f : SourceFile) (file : find f.path w.files ≡ Some f) wh
         let i = get_map (link w (folder_of f.path)) (map bare_item items) at.0 l at.1 in
         (i.0, (map bare_item items, said, got (map bare_item items) at.0 i.0 i.1), i.2)
 
-    pub fault_at : (c : Cause) → Contains links (Fault c) → BreaksAt w f.path c
-    fault_at c h = let i = from_links (Fault c) h in in_item i.0 i.1 i.2
+    pub fault_at : (c : Cause) → Contains links (AtFault c) → BreaksAt w f.path c
+    fault_at c h = let i = from_links (AtFault c) h in in_item i.0 i.1 i.2
 
     pub leads_to : (path : List ℕ) → Contains links (To path) → FileLeadsTo w f.path path
     leads_to path h = let i = from_links (To path) h in record { item = i.0; has = i.1; leads = i.2 }
@@ -100,7 +100,7 @@ module _ (w : World) (f : SourceFile) (file : find f.path w.files ≡ Some f) wh
     none_at paths ts places fits _ (no_grammar text there none told) =
         let same : text ≡ f.text = (let e = sym there ∙ text_there in cc) in
         let no : Some (map bare_item items) ≡ None = sym parsed ∙ ap (λ t. items_said (w.answers.parsed (relative_to_root w f.path) t)) (sym same) ∙ ap items_said none in cc
-    none_at paths ts places fits _ (no_number text there many) =
+    none_at paths ts places fits _ (out_of_numbers text there many) =
         let same : text ≡ f.text = (let e = sym there ∙ text_there in cc) in
         let few : w.answers.spends (relative_to_root w f.path) text ≤ 2 ^ 64 = subst (λ t. w.answers.spends (relative_to_root w f.path) t ≤ 2 ^ 64) (sym same) fits in omega (arith, many, few)
     none_at paths ts places fits c (in_item i has fault) =

@@ -14,7 +14,7 @@ use Rattle.just_names.specs.Token.{Place}
 use Rattle.just_names.specs.declared.name.Name.{Name}
 use Rattle.just_parts.specs.Items.{Item}
 use Rattle.just_ast_items.specs.Edge.{Edge, Imports, Declares, edge_of}
-use Rattle.just_loader.specs.Links.{Link, Nowhere, To, expanded, given_path, unless, import_link, choice, module_link, edge_link, link_in}
+use Rattle.just_loader.specs.Links.{Link, Unlinked, To, expanded, given_path, unless, import_link, choice, module_link, edge_link, link_in}
 use Rattle.just_loader.specs.ModuleFile.{candidates, file_at, files_in, is_module_file, or_else}
 use Rattle.just_errors.specs.Causes.{Cause, NoImport, NoModule}
 use Rattle.just_loader.specs.Sources.{Files}
@@ -71,7 +71,7 @@ module _ (files : Files) where
   edge_there home folder (Some (Declares name literal optional)) path e = module_there folder name optional (given_path home literal) path e
   edge_there home folder None path e = cc
 
-  if_there : (b : Bool) (link : Link) (path : List ℕ) → (link ≡ To path → IsThere path) → (if b then link else Nowhere) ≡ To path → IsThere path
+  if_there : (b : Bool) (link : Link) (path : List ℕ) → (link ≡ To path → IsThere path) → (if b then link else Unlinked) ≡ To path → IsThere path
   if_there true link path f e = f e
   if_there false link path f e = cc
 

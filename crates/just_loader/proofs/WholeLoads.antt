@@ -5,7 +5,7 @@ use Rattle.std.specs.declared.vec.Vec.{Vec}
 use Rattle.std.specs.declared.alloc.Global.{Global}
 use Rattle.std.proofs.lemmas.Option.{slice_get_within}
 use Rattle.just_graph.specs.Unfolding.{steps}
-use Rattle.just_graph.specs.Unfolded.{AreApart, IsUnfolded, unfolded_key, AreReached}
+use Rattle.just_graph.specs.Unfolded.{AreDistinct, IsUnfolded, unfolded_key, AreReached}
 use Rattle.just_graph.specs.declared.unfolding.Step.{Step}
 use Rattle.just_graph.specs.declared.unfolding.Unfolded.{Unfolded}
 use Rattle.just_parts.specs.Items.{Ast}
@@ -33,7 +33,7 @@ use Rattle.just_loader.proofs.Numberings.{get_map, read_at}
 pub record IsWhole (rows : List (Vec Step Global)) (us : List Unfolded) : Type 0 where
   pub first : IsUnfolded (steps rows) 0 us
   pub keys : AreReached (steps rows) 0 (map unfolded_key us)
-  pub once : AreApart (map unfolded_key us)
+  pub once : AreDistinct (map unfolded_key us)
 
 pub whole_lent : {rows lent : List (Vec Step Global)} {us shown : List Unfolded} → lent ≡ rows → shown ≡ us → IsWhole lent us → IsWhole rows shown
 whole_lent {rows} {lent} {us} {shown} e f whole = subst (IsWhole rows) (sym f) (subst (λ r. IsWhole r us) e whole)

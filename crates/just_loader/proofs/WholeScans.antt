@@ -14,13 +14,13 @@ use Rattle.just_graph.specs.Unfolding.{HasStep, steps}
 use Rattle.just_graph.specs.declared.unfolding.Step.{Step}
 use Rattle.just_graph.proofs.Members.{In, contained, is_in, in_cases, from_map, without}
 use Rattle.just_graph.proofs.Index.{same_lists}
-use Rattle.just_graph.specs.Unfolded.{AreApart}
+use Rattle.just_graph.specs.Unfolded.{AreDistinct}
 use Rattle.just_paths.specs.Clean.{IsClean, folder_of}
 use Rattle.just_names.specs.declared.name.Name.{Name}
 use Rattle.just_table.specs.Entries.{find}
 use Rattle.just_parts.specs.Items.{Item}
 use Rattle.just_ast_items.specs.Edge.{Edge, Imports, Declares, edge_of}
-use Rattle.just_loader.specs.Links.{Link, Nowhere, To, Fault}
+use Rattle.just_loader.specs.Links.{Link, Unlinked, To, AtFault}
 use Rattle.just_loader.specs.loops.Numbering.{AreFound, paths_of}
 use Rattle.just_loader.specs.Reached.{World, IsReachedFile, from_root, from_file, items_of_file, link, FileLeadsTo, BreaksAt, BreaksInScan}
 use Rattle.just_errors.specs.Causes.{Cause}
@@ -127,16 +127,16 @@ scan_one w paths paths' names names' files files' rows rows' f s row so at path 
 place_of_link : (paths : List (List ℕ)) (ls : List Link) (ts : List (Option ℕ)) (k : ℕ) (path : List ℕ) → ArePlacesOf paths ls ts → slice_get ls k ≡ Some (To path) → Contains paths path
 place_of_link paths [] ts k path ps e = absurd (none_some e)
 place_of_link paths (l ∷ ls) [] k path ps e = absurd ps
-place_of_link paths (Nowhere ∷ ls) (t ∷ ts) zero path ps e = cc
-place_of_link paths (Fault c ∷ ls) (t ∷ ts) zero path ps e = cc
+place_of_link paths (Unlinked ∷ ls) (t ∷ ts) zero path ps e = cc
+place_of_link paths (AtFault c ∷ ls) (t ∷ ts) zero path ps e = cc
 place_of_link paths (To p ∷ ls) (None ∷ ts) zero path ps e = absurd ps.0
 place_of_link paths (To p ∷ ls) (Some i ∷ ts) zero path ps e = got paths i path (ps.0 ∙ (let same : p ≡ path = cc in ap Some same))
 place_of_link paths (l ∷ ls) (t ∷ ts) (suc k) path ps e = place_of_link paths ls ts k path ps.1 e
 
 place_inside : (paths : List (List ℕ)) (l : Link) (place : ℕ) → IsPlaceOf paths l (Some place) → place < length paths
-place_inside paths Nowhere place p = absurd p
+place_inside paths Unlinked place p = absurd p
 place_inside paths (To path) place p = slice_get_within paths place path p
-place_inside paths (Fault c) place p = absurd p
+place_inside paths (AtFault c) place p = absurd p
 
 places_inside : (paths : List (List ℕ)) (ls : List Link) (ts : List (Option ℕ)) (place : ℕ) → ArePlacesOf paths ls ts → In (Some place) ts → place < length paths
 places_inside paths ls [] place ps h = absurd h
@@ -215,7 +215,7 @@ module _ (w : World) (paths : List (List ℕ)) (names : List Name) (files : List
 
 -- a scan whose files are all that are found
 pub is_scan : (w : World) (paths : List (List ℕ)) (scan : Scan) → ScannedSoFar w paths scan.names.items scan.files.items scan.rows.items → length paths ≤ length scan.files.items
-    → AreApart paths → All IsClean paths → IsScan w scan
+    → AreDistinct paths → All IsClean paths → IsScan w scan
 is_scan w paths scan so all once clean =
     let files = scan.files.items in
     let rows = scan.rows.items in
@@ -223,7 +223,7 @@ is_scan w paths scan so all once clean =
     let is_paths : paths_in files ≡ paths = all_paths w paths names files rows so all in
     record {
       reached = λ p. (λ c. so.reached p (subst (λ ps. Contains ps p) is_paths c), λ r. subst (λ ps. Contains ps p) (sym is_paths) (all_reached w paths names files rows so all p r));
-      once = subst AreApart (sym is_paths) once;
+      once = subst AreDistinct (sym is_paths) once;
       clean = subst (All IsClean) (sym is_paths) clean;
       root = ap (λ ps. slice_get ps 0) is_paths ∙ so.first;
       count = so.count;
@@ -232,7 +232,7 @@ is_scan w paths scan so all once clean =
     }
 
 -- texts of a list that are there once are no more than the list has
-few : (xs ys : List (List ℕ)) → AreApart xs → ((x : List ℕ) → In x xs → In x ys) → length xs ≤ length ys
+few : (xs ys : List (List ℕ)) → AreDistinct xs → ((x : List ℕ) → In x xs → In x ys) → length xs ≤ length ys
 few [] ys once h = omega arith
 few (x ∷ xs) ys once h =
     let r = without x ys (h x (inl refl)) in
@@ -257,5 +257,5 @@ pub found_clean : (files : Files) (found : Found) → AreFound files found → A
 found_clean files found f = all_at IsClean (paths_of found.files.items) (λ k p e. let x = get_map (λ (x : SourceFile). x.path) found.files.items k p e in subst IsClean x.2 (f.there k x.0 x.1).1)
 
 -- no more files are found than there are
-pub found_few : (files : Files) (found : Found) → AreFound files found → AreApart (paths_of found.files.items) → length found.files.items ≤ length (keys_of files)
+pub found_few : (files : Files) (found : Found) → AreFound files found → AreDistinct (paths_of found.files.items) → length found.files.items ≤ length (keys_of files)
 found_few files found f once = omega (arith, few (paths_of found.files.items) (keys_of files) once (found_key files found f), length-map found.files.items (λ (x : SourceFile). x.path))

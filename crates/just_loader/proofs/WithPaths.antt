@@ -4,10 +4,10 @@ use Rattle.std.specs.Option.{option_map}
 use Rattle.std.proofs.lemmas.List.{length-map}
 use Rattle.std.proofs.lemmas.Option.{get_or_from_slice_get, slice_get_within}
 use Rattle.just_ast_items.specs.Edge.{with_absolute}
-use Rattle.just_parts.specs.Syntax.{item_numbers, numbers}
+use Rattle.just_parts.specs.Syntax.{item_numbers, numbers_of_items}
 use Rattle.just_parts.proofs.Edges.{same_numbers}
 use Rattle.just_parts.specs.Items.{Item}
-use Rattle.just_loader.specs.Links.{Link, Nowhere, To, Fault}
+use Rattle.just_loader.specs.Links.{Link, Unlinked, To, AtFault}
 use Rattle.just_loader.specs.Loaded.{path_of_link, with_path}
 use Rattle.just_loader.specs.loops.Loading.{HavePaths}
 use Rattle.just_loader.specs.loops.Placed.{file_at}
@@ -18,20 +18,20 @@ use Rattle.just_loader.specs.declared.scanned.ScannedFile.{ScannedFile}
 
 -- the path at the place of a link
 shown : (scan : Scan) (l : Link) (t : Option ℕ) → IsPlaceOf (paths_in scan.files.items) l t → option_map (file_at scan) t ≡ path_of_link l
-shown scan Nowhere None p = refl
-shown scan Nowhere (Some k) p = absurd p
+shown scan Unlinked None p = refl
+shown scan Unlinked (Some k) p = absurd p
 shown scan (To path) None p = absurd p
 shown scan (To path) (Some k) p = ap Some (get_or_from_slice_get (paths_in scan.files.items) k path [] p)
-shown scan (Fault c) t p = absurd p
+shown scan (AtFault c) t p = absurd p
 
 pub path_shown : (w : World) (scan : Scan) (folder : List ℕ) (i : Item) (t : Option ℕ) → IsPlaceOf (paths_in scan.files.items) (link w folder i) t → with_absolute (option_map (file_at scan) t) i ≡ with_path w folder i
 path_shown w scan folder i t p = ap (λ o. with_absolute o i) (shown scan (link w folder i) t p)
 
 pub place_inside : (scan : Scan) (l : Link) (t : Option ℕ) → IsPlaceOf (paths_in scan.files.items) l t → IfSome t (λ place. place < length scan.files.items)
 place_inside scan l None p = tt
-place_inside scan Nowhere (Some k) p = absurd p
+place_inside scan Unlinked (Some k) p = absurd p
 place_inside scan (To path) (Some k) p = omega (arith, slice_get_within (paths_in scan.files.items) k path p, length-map scan.files.items (λ (f : ScannedFile). f.path))
-place_inside scan (Fault c) (Some k) p = absurd p
+place_inside scan (AtFault c) (Some k) p = absurd p
 
 -- Items, of which those before a place are changed: the one there is not yet, and leads to the target beside it.
 abbrev pub half : (Item → Item) → List Item → ℕ → List Item
@@ -71,6 +71,6 @@ all_linked w scan folder ts items lent new made same have is places =
     is ∙ have w folder (subst (λ xs. ArePlacesOf (paths_in scan.files.items) (map (link w folder) xs) ts) (sym same) places) ∙ ap (map (with_path w folder)) same
 
 -- paths change no numbers
-pub with_paths_numbers : (w : World) (folder : List ℕ) (items : List Item) → numbers (map (with_path w folder) items) ≡ numbers items
+pub with_paths_numbers : (w : World) (folder : List ℕ) (items : List Item) → numbers_of_items (map (with_path w folder) items) ≡ numbers_of_items items
 with_paths_numbers w folder [] = refl
-with_paths_numbers w folder (i ∷ is) = ap (λ ns. ns ++ numbers (map (with_path w folder) is)) (same_numbers (path_of_link (link w folder i)) i) ∙ ap (λ ns. item_numbers i ++ ns) (with_paths_numbers w folder is)
+with_paths_numbers w folder (i ∷ is) = ap (λ ns. ns ++ numbers_of_items (map (with_path w folder) is)) (same_numbers (path_of_link (link w folder i)) i) ∙ ap (λ ns. item_numbers i ++ ns) (with_paths_numbers w folder is)

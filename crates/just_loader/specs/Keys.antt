@@ -3,7 +3,7 @@ use Rattle.std.specs.Prelude.{◌≡◌, ℕ, false, List, [], ◌∷◌, map, u
 use Rattle.std.specs.List.{Contains, flat_map, sum_by}
 use Rattle.std.specs.Option.{option_map}
 use Rattle.just_graph.specs.Unfolding.{AreFirstOf, KeyOf, KeyStepsOf, NodeOf}
-use Rattle.just_graph.specs.Unfolded.{AreApart}
+use Rattle.just_graph.specs.Unfolded.{AreDistinct}
 use Rattle.just_parts.specs.Asts.{AstKey}
 use Rattle.just_paths.specs.Clean.{folder_of}
 use Rattle.just_ast_items.specs.Edge.{Edge, Imports, Declares, edge_of}
@@ -13,7 +13,7 @@ use Rattle.just_names.specs.Texts.{Text}
 use Rattle.just_parts.specs.Items.{Item}
 use Rattle.just_errors.specs.Causes.{Cause, Keeps, NoFile, NoNumber}
 use Rattle.just_loader.specs.FileCircles.{BreaksCircle}
-use Rattle.just_loader.specs.Links.{Link, Nowhere, To, Fault}
+use Rattle.just_loader.specs.Links.{Link, Unlinked, To, AtFault}
 use Rattle.just_loader.specs.Reached.{World, items_of_file, link, relative_to_root, BreaksInScan}
 use Rattle.just_loader.specs.Sources.{text_at}
 
@@ -23,9 +23,9 @@ items_at w f = unwrap_or (items_of_file w f) []
 
 -- where a link leads, if it does
 abbrev pub end_of_link : Link → List Text
-end_of_link Nowhere = []
+end_of_link Unlinked = []
 end_of_link (To path) = path ∷ []
-end_of_link (Fault cause) = []
+end_of_link (AtFault cause) = []
 
 -- A step from a file: where it leads, the offset of the quoted text of an import, and of the module that it enters the text of its name and the name of
 -- the item that declares it; an import enters none.
@@ -87,4 +87,4 @@ pub data BreaksFiles (w : World) : Cause → Type 0 where
   no_root : {path : Text} → text_at w.files w.root ≡ None → w.root ≡ path → BreaksFiles w (NoFile path)
   at_fault : {c : Cause} → BreaksInScan w c → BreaksFiles w c
   in_circle : {c : Cause} → BreaksCircle w c → BreaksFiles w c
-  too_many : Keeps (BreaksInScan w) → Keeps (BreaksCircle w) → (keys : List FileKey) → AreApart keys → ((k : FileKey) → Contains keys k → IsKey w k) → 2 ^ 64 < sum_by (λ (k : FileKey). spends_at w k.node) keys → BreaksFiles w NoNumber
+  too_many : Keeps (BreaksInScan w) → Keeps (BreaksCircle w) → (keys : List FileKey) → AreDistinct keys → ((k : FileKey) → Contains keys k → IsKey w k) → 2 ^ 64 < sum_by (λ (k : FileKey). spends_at w k.node) keys → BreaksFiles w NoNumber

@@ -19,9 +19,9 @@ use Rattle.just_loader.specs.Sources.{Files}
 
 -- nowhere, to a path, or a fault
 pub data Link : Type 0 where
-  Nowhere : Link
+  Unlinked : Link
   To : Text → Link
-  Fault : Cause → Link
+  AtFault : Cause → Link
 
 -- a text after its leading slashes
 abbrev pub without_slashes : Text → Text
@@ -49,33 +49,33 @@ given_path home (Some literal) = option_map Some (expanded home literal.cooked)
 
 -- an optional item leads nowhere, another is at fault
 abbrev pub unless : Bool → Cause → Link
-unless optional cause = if optional then Nowhere else Fault cause
+unless optional cause = if optional then Unlinked else AtFault cause
 
 -- an import from a folder, by its expanded text
 abbrev pub import_link : Files → Text → Place → Bool → Option Text → Link
-import_link files folder token optional None = Fault NoHome
+import_link files folder token optional None = AtFault NoHome
 import_link files folder token optional (Some text) = if is_some (find (clean_join folder text) files) then To (clean_join folder text) else unless optional (NoImport token)
 
 -- a module by the files that it can have
 abbrev pub choice : Text → Name → Bool → List Text → Link
 choice folder name optional [] = unless optional (NoModule name)
 choice folder name optional (path ∷ []) = To path
-choice folder name optional (path ∷ next ∷ more) = Fault (SeveralFiles name (map (relative folder) (path ∷ next ∷ more)))
+choice folder name optional (path ∷ next ∷ more) = AtFault (SeveralFiles name (map (relative folder) (path ∷ next ∷ more)))
 
 -- a module from a folder, by the path that may be given for it
 abbrev pub module_link : Files → Text → Name → Bool → Option (Option Text) → Link
-module_link files folder name optional None = Fault NoHome
+module_link files folder name optional None = AtFault NoHome
 module_link files folder name optional (Some path) = choice folder name optional (candidates files folder (text_of_name name) path)
 
 -- what leads to a file leads to from its own folder
 abbrev pub edge_link : Files → Option Text → Text → Option Edge → Link
-edge_link files home folder None = Nowhere
+edge_link files home folder None = Unlinked
 edge_link files home folder (Some (Imports literal optional)) = import_link files folder literal.token optional (expanded home literal.cooked)
 edge_link files home folder (Some (Declares name literal optional)) = module_link files folder name optional (given_path home literal)
 
 -- the same of an item, where it is enabled
 abbrev pub link_in : Files → Option Text → (Item → Bool) → Text → Item → Link
-link_in files home enabled folder i = if enabled (bare_item i) then edge_link files home folder (edge_of i) else Nowhere
+link_in files home enabled folder i = if enabled (bare_item i) then edge_link files home folder (edge_of i) else Unlinked
 
 -- the same, by what is configured and what the syntax layer answers
 abbrev pub link_by : Files → Config → SyntaxAnswers → Text → Item → Link
@@ -83,5 +83,5 @@ link_by files config answers = link_in files config.home answers.enabled
 
 -- a path that may be there
 abbrev pub linked : Option Text → Link
-linked None = Nowhere
+linked None = Unlinked
 linked (Some path) = To path

@@ -9,7 +9,7 @@ use Rattle.just_parts.specs.Bare.{bare_ast}
 use Rattle.just_errors.specs.Causes.{Keeps, Reports}
 use Rattle.just_paths.specs.Clean.{folder_of}
 use Rattle.just_ast_items.specs.Edge.{with_absolute}
-use Rattle.just_parts.specs.Syntax.{AreNoConstants, AreRising, AttributesNameParameters, IsFrom, PriorsAreDependencies, components_of, numbers}
+use Rattle.just_parts.specs.Syntax.{AreNoConstants, AreRising, AttributesNameParameters, IsFrom, PriorsAreDependencies, components_of, numbers_of_items}
 use Rattle.just_names.specs.Texts.{Text}
 use Rattle.just_names.specs.Name.{names_of_path}
 use Rattle.just_names.specs.declared.name.Name.{Name}
@@ -18,7 +18,7 @@ use Rattle.just_parts.specs.Items.{Ast, Item}
 use Rattle.just_errors.specs.declared.error.Error.{Error}
 use Rattle.just_source.specs.declared.source.Source.{Source}
 use Rattle.just_loader.specs.Keys.{AreFirstFiles, FileKey, FileNode, FileStep, IsKey, IsLeastFileDepth, BreaksFiles, ast_key}
-use Rattle.just_loader.specs.Links.{Link, Nowhere, To, Fault}
+use Rattle.just_loader.specs.Links.{Link, Unlinked, To, AtFault}
 use Rattle.just_loader.specs.Reached.{World, ast_of, link, relative_to_root}
 use Rattle.just_loader.specs.declared.loaded.Loaded.{Loaded}
 
@@ -54,9 +54,9 @@ pub record CameIn (w : World) (n : FileNode) (source : Source) : Type 0 where
 
 -- where a link leads
 abbrev pub path_of_link : Link → Option Text
-path_of_link Nowhere = None
+path_of_link Unlinked = None
 path_of_link (To path) = Some path
-path_of_link (Fault cause) = None
+path_of_link (AtFault cause) = None
 
 -- an item with the absolute path of what it leads to
 abbrev pub with_path : World → Text → Item → Item
@@ -74,8 +74,8 @@ pub record IsAstOf (w : World) (n : FileNode) (ast : Ast) : Type 0 where
 
 -- Numbers tell all definitions apart: those of a text rise, and no number is in two texts.
 pub record AreToldApart (asts : AstKey → Option Ast) : Type 0 where
-  pub rising : (k : AstKey) (ast : Ast) → asts k ≡ Some ast → (low : ℕ) × (high : ℕ) × AreRising low (numbers ast.items) high
-  pub apart : (k l : AstKey) (a b : Ast) (n : ℕ) → asts k ≡ Some a → asts l ≡ Some b → same_ast_key k l ≡ false → Contains (numbers a.items) n → Contains (numbers b.items) n → ⊥
+  pub rising : (k : AstKey) (ast : Ast) → asts k ≡ Some ast → (low : ℕ) × (high : ℕ) × AreRising low (numbers_of_items ast.items) high
+  pub apart : (k l : AstKey) (a b : Ast) (n : ℕ) → asts k ≡ Some a → asts l ≡ Some b → same_ast_key k l ≡ false → Contains (numbers_of_items a.items) n → Contains (numbers_of_items b.items) n → ⊥
 
 -- each text once, at its first place
 abbrev pub at_first : List Text → List Text
@@ -89,7 +89,7 @@ pub record IsLoaded (w : World) (asts : AstKey → Option Ast) (loaded : List Te
   pub keys : (k : FileKey) → IsKey w k → HasKeyOf nodes k
   pub held : (n : FileNode) → Contains nodes n → (ast : Ast) × (asts (ast_key (key_of n)) ≡ Some ast) × IsAstOf w n ast
   pub only : (k : AstKey) (ast : Ast) → asts k ≡ Some ast → (n : FileNode) × Contains nodes n × (ast_key (key_of n) ≡ k)
-  pub constants : (k : AstKey) (ast : Ast) → asts k ≡ Some ast → AreNoConstants w.answers.constant (numbers ast.items)
+  pub constants : (k : AstKey) (ast : Ast) → asts k ≡ Some ast → AreNoConstants w.answers.constant (numbers_of_items ast.items)
   pub numbers : AreToldApart asts
   pub priors : (k : AstKey) (ast : Ast) → asts k ≡ Some ast → All PriorsAreDependencies ast.items
   pub attributes : (k : AstKey) (ast : Ast) → asts k ≡ Some ast → All AttributesNameParameters ast.items

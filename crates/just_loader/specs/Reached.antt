@@ -9,7 +9,7 @@ use Rattle.just_names.specs.Token.{Place}
 use Rattle.just_parts.specs.Items.{Ast, Item}
 use Rattle.just_parts.specs.declared.layers.config.Config.{Config}
 use Rattle.just_errors.specs.declared.compile_error.CompileErrorKind.TheVariants as kind
-use Rattle.just_loader.specs.Links.{Link, To, Fault, link_in}
+use Rattle.just_loader.specs.Links.{Link, To, AtFault, link_in}
 use Rattle.just_loader.specs.ModuleFile.{relative}
 use Rattle.just_errors.specs.Causes.{Cause, Broken, NoNumber}
 use Rattle.just_loader.specs.Sources.{Files, text_at}
@@ -68,8 +68,8 @@ pub record IsInText (w : World) (path text : Text) (place : Place) : Type 0 wher
 pub data BreaksAt (w : World) (path : Text) : Cause → Type 0 where
   no_grammar : {place : Place} (text : Text) → text_at w.files path ≡ Some text → w.answers.parsed (relative_to_root w path) text ≡ None → IsInText w path text place
       → BreaksAt w path (Broken place kind.Syntax)
-  no_number : (text : Text) → text_at w.files path ≡ Some text → 2 ^ 64 < w.answers.spends (relative_to_root w path) text → BreaksAt w path NoNumber
-  in_item : {c : Cause} (item : Item) → HasItem w path item → link w (folder_of path) item ≡ Fault c → BreaksAt w path c
+  out_of_numbers : (text : Text) → text_at w.files path ≡ Some text → 2 ^ 64 < w.answers.spends (relative_to_root w path) text → BreaksAt w path NoNumber
+  in_item : {c : Cause} (item : Item) → HasItem w path item → link w (folder_of path) item ≡ AtFault c → BreaksAt w path c
 
 -- What is at fault with a reached file.
 pub record BreaksInScan (w : World) (c : Cause) : Type 0 where

@@ -7,7 +7,7 @@ ghost use Rattle.std.specs.Option.{option_map};
 ghost use Rattle.just_graph.specs.Unfolding.{Node};
 ghost use Rattle.just_graph.specs.declared.unfolding.Unfolded.{Unfolded};
 ghost use Rattle.just_paths.specs.Clean.{IsClean};
-ghost use Rattle.just_parts.specs.Syntax.{numbers};
+ghost use Rattle.just_parts.specs.Syntax.{numbers_of_items};
 ghost use Rattle.just_parts.specs.Asts.{same_ast_key};
 ghost use Rattle.just_ast_items.specs.Edge.{with_absolute};
 ghost use Rattle.just_loader.specs.Loaded.{Loads};
@@ -159,7 +159,7 @@ fn read_file<'src, S: Syntax>(
     requires few { texts.old.numerator ≤ 2 ^ 64 }
     ensures said { IfOk result (λ ast. InWorlds scan.now (S.answers syntax.now) (λ w. IsSaid w (file_at scan.now place) source.now ast)) }
     ensures laws { IfOk result (KeepsLaws (S.answers syntax.now)) }
-    ensures takes { IfOk result (λ ast. TakesTextOf scan.now (S.answers syntax.now) place texts.old texts.new (numbers ast.items)) }
+    ensures takes { IfOk result (λ ast. TakesTextOf scan.now (S.answers syntax.now) place texts.old texts.new (numbers_of_items ast.items)) }
     ensures fits { OnOk result (texts.new.numerator ≤ 2 ^ 64) }
     ensures stopped { IfErr result (StopsInFile scan.now (S.answers syntax.now) place texts.old.numerator) }
 {

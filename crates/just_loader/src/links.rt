@@ -4,7 +4,7 @@ ghost use Rattle.std.specs.Prelude.{◌≡◌, None, Some, is_some, map, option_
 ghost use Rattle.just_ast_items.specs.Edge.{Imports};
 ghost use Rattle.just_table.specs.Entries.{find};
 ghost use Rattle.just_paths.specs.Join.{clean_join};
-ghost use Rattle.just_loader.specs.Links.{Nowhere, To, Fault, without_slashes, expanded, given_path, module_link, edge_link, link_by, linked};
+ghost use Rattle.just_loader.specs.Links.{Unlinked, To, AtFault, without_slashes, expanded, given_path, module_link, edge_link, link_by, linked};
 ghost use Rattle.just_errors.specs.Causes.{NoHome, Reports};
 
 use crate::module_file::{after, find_module_file};
@@ -52,7 +52,7 @@ fn link_import<'src>(
     optional: bool,
 ) -> Result<Option<Text>, Error<'src>>
     ensures path { IfOk result (λ path. edge_link sources.now config.now.home folder.now (Some (Imports literal.now optional)) ≡ linked path) }
-    ensures error { IfErr result (Reports (λ c. edge_link sources.now config.now.home folder.now (Some (Imports literal.now optional)) ≡ Fault c)) }
+    ensures error { IfErr result (Reports (λ c. edge_link sources.now config.now.home folder.now (Some (Imports literal.now optional)) ≡ AtFault c)) }
 {
     let text = expand(alloc, &config.home, literal.cooked.as_str())?;
     let path = clean_join(alloc, folder, text.as_str())?;
@@ -93,7 +93,7 @@ fn link_module<'src>(
     optional: bool,
 ) -> Result<Option<Text>, Error<'src>>
     ensures path { IfOk result (λ path. module_link sources.now folder.now name.now optional (given_path config.now.home literal.now) ≡ linked path) }
-    ensures error { IfErr result (Reports (λ c. module_link sources.now folder.now name.now optional (given_path config.now.home literal.now) ≡ Fault c)) }
+    ensures error { IfErr result (Reports (λ c. module_link sources.now folder.now name.now optional (given_path config.now.home literal.now) ≡ AtFault c)) }
 {
     let given = expand_given(alloc, &config.home, literal)?;
     let path = given.as_ref().map(|path| path.as_str());
@@ -117,7 +117,7 @@ pub fn link<'src, S: Syntax>(
     folder: &str,
 ) -> Result<Option<Text>, Error<'src>>
     ensures path { IfOk result (λ path. link_by sources.now config.now (S.answers syntax.now) folder.now item.now ≡ linked path) }
-    ensures error { IfErr result (Reports (λ c. link_by sources.now config.now (S.answers syntax.now) folder.now item.now ≡ Fault c)) }
+    ensures error { IfErr result (Reports (λ c. link_by sources.now config.now (S.answers syntax.now) folder.now item.now ≡ AtFault c)) }
 {
     if !syntax.is_enabled(item) {
         return Ok(None);

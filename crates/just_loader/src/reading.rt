@@ -1,7 +1,7 @@
 //! Texts that are read in a scan, and taken where the first node of their file comes.
 
 ghost use Rattle.std.specs.Prelude.{◌≡◌, ◌≢◌, ◌^◌, ◌≤◌, [], None, Some, Ok, map, false, set, slice_get, IfErr, IfNone, IfOk, IfSome, IsErrOf, OnOk};
-ghost use Rattle.just_parts.specs.Syntax.{Refuses, components_of, numbers};
+ghost use Rattle.just_parts.specs.Syntax.{Refuses, components_of, numbers_of_items};
 ghost use Rattle.just_parts.specs.Items.{Ast};
 ghost use Rattle.just_loader.specs.loops.Reading.{IsBroughtIn, IsRead, IsReadBy, TakesText, brought_in, takes};
 
@@ -143,7 +143,7 @@ pub(crate) fn read_text<'src, S: Syntax>(
         IsRead (S.answers syntax.now) file.now.relative file.now.text ast }
     requires few { texts.old.numerator ≤ 2 ^ 64 }
     ensures read { IfOk result (IsReadBy (S.answers syntax.now) file.now.relative file.now.text source.now) }
-    ensures takes { IfOk result (λ ast. TakesText place (takes (S.answers syntax.now) file.now) texts.old texts.new (numbers ast.items)) }
+    ensures takes { IfOk result (λ ast. TakesText place (takes (S.answers syntax.now) file.now) texts.old texts.new (numbers_of_items ast.items)) }
     ensures fits { OnOk result (texts.new.numerator ≤ 2 ^ 64) }
     ensures stopped { IfErr result (Refuses (S.answers syntax.now) file.now.relative file.now.text texts.old.numerator) }
 {

@@ -5,7 +5,7 @@ ghost use Rattle.just_parts.specs.Bare.{bare_item};
 ghost use Rattle.just_paths.specs.Clean.{IsClean};
 ghost use Rattle.just_table.specs.Entries.{find};
 ghost use Rattle.just_parts.specs.Syntax.{Refuses};
-ghost use Rattle.just_loader.specs.Links.{To, Fault, link_by};
+ghost use Rattle.just_loader.specs.Links.{To, AtFault, link_by};
 ghost use Rattle.just_loader.specs.loops.Links.{links_by};
 ghost use Rattle.just_loader.specs.loops.Numbering.{AreFound, AreNumbered, IsFile, paths_found};
 ghost use Rattle.just_loader.specs.Reached.{FileLeadsTo, BreaksAt, BreaksInScan, items_said, world_of};
@@ -68,7 +68,7 @@ fn target<'src, S: Syntax>(
     ensures place { IfOk result (IsPlaceOf (paths_found found.new) (link_by sources.now config.now (S.answers syntax.now) folder.now item.now)) }
     ensures grows { OnOk result (Finds (λ path. link_by sources.now config.now (S.answers syntax.now) folder.now item.now ≡ To path) found.old found.new) }
     ensures found { OnOk result (AreFound sources.now found.new) }
-    ensures error { IfErr result (Reports (λ c. link_by sources.now config.now (S.answers syntax.now) folder.now item.now ≡ Fault c)) }
+    ensures error { IfErr result (Reports (λ c. link_by sources.now config.now (S.answers syntax.now) folder.now item.now ≡ AtFault c)) }
 {
     match link(alloc, item, config, syntax, sources, folder)? {
         Some(path) => Ok(Some(found.place(sources, path.as_str())?)),

@@ -13,7 +13,7 @@ use Rattle.just_module_contents.specs.Rules.{unknown_target}
 use Rattle.just_module_contents.proofs.RecipePlaces.{length-lent}
 use Rattle.just_module_aliases.specs.Aliased.{Targets, UnknownTargets, aliases_of, aliases_onto, as_disabled, as_module_alias, as_recipe_alias, disabled_among, alias_meant, modules_among, name_of_alias, name_of_disabled_alias, no_aliases, recipes_among}
 use Rattle.just_module_aliases.specs.loops.Aliased.{IsAdded, UnknownTarget, no_meaning}
-use Rattle.just_module_aliases.specs.declared.aliases.Meaning.{Meaning}
+use Rattle.just_module_aliases.specs.declared.aliases.AliasMeaning.{AliasMeaning}
 use Rattle.just_names.specs.Name.{text_of_name}
 use Rattle.just_names.specs.Texts.{Text}
 use Rattle.just_names.specs.Token.{Place}
@@ -26,7 +26,7 @@ module _ {V : Type 0} (key : V → Text) where
   put_append es (v ∷ vs) ws = put_append (put (key v) v es) vs ws
 
 -- what is not there is none
-pub means_none : (o : Option Meaning) → (o ≢ None → ⊥) → o ≡ None
+pub means_none : (o : Option AliasMeaning) → (o ≢ None → ⊥) → o ≡ None
 means_none None means = refl
 means_none (Some it) means = absurd (means (λ e. cc))
 

@@ -10,8 +10,8 @@ use Rattle.just_justfile.specs.declared.justfile.RecipeKey.{RecipeKey}
 use Rattle.just_justfile.specs.declared.resolution.Resolution.{Resolution}
 use Rattle.just_justfile.specs.declared.resolution.Resolution.TheVariants as resolution
 use Rattle.just_module_contents.specs.Rules.{BreaksAliasTargets as BreaksTargets}
-use Rattle.just_module_aliases.specs.declared.aliases.Meaning.{Meaning}
-use Rattle.just_module_aliases.specs.declared.aliases.Meaning.TheVariants as meaning
+use Rattle.just_module_aliases.specs.declared.aliases.AliasMeaning.{AliasMeaning}
+use Rattle.just_module_aliases.specs.declared.aliases.AliasMeaning.TheVariants as meaning
 use Rattle.just_names.specs.Name.{text_of_name}
 use Rattle.just_names.specs.Texts.{Text}
 use Rattle.just_names.specs.declared.name.Namepath.{Namepath}
@@ -38,19 +38,19 @@ abbrev pub targets_of : Justfile → Targets
 targets_of j = targets (out-Justfile j).absent_modules (out-Justfile j).disabled_recipes (out-Justfile j).modules (out-Justfile j).recipes
 
 -- what is meant by a path that resolves to a recipe so
-abbrev pub as_recipe : Option (Resolution Number) → Option Meaning
+abbrev pub as_recipe : Option (Resolution Number) → Option AliasMeaning
 as_recipe None = None
 as_recipe (Some (resolution.Disabled modules)) = Some (meaning.Disabled modules)
 as_recipe (Some (resolution.Resolved number)) = Some (meaning.Recipe number)
 
 -- what is meant by a path that resolves to a module so, or where it does not by what it means else
-abbrev pub as_module : Option (Resolution Modulepath) → Option Meaning → Option Meaning
+abbrev pub as_module : Option (Resolution Modulepath) → Option AliasMeaning → Option AliasMeaning
 as_module None other = other
 as_module (Some (resolution.Disabled modules)) other = Some (meaning.Disabled modules)
 as_module (Some (resolution.Resolved path)) other = Some (meaning.Module path)
 
 -- What is meant by a path: the module that it leads to, or where it leads to none the recipe. What lies in optional modules without a file is disabled. Aliases are not looked at.
-abbrev pub alias_meant : Targets → Namepath → Option Meaning
+abbrev pub alias_meant : Targets → Namepath → Option AliasMeaning
 alias_meant t path = as_module (resolved_module t.absent t.modules path) (as_recipe (resolved_recipe t.absent t.disabled t.modules t.recipes path))
 
 -- an alias of that, in place of a path
@@ -58,15 +58,15 @@ abbrev pub aimed : {T : Type 0} → Alias Namepath → T → Alias T
 aimed alias target = record { attributes = alias.attributes; name = alias.name; target = target }
 
 -- what an alias with a meaning is among those that are disabled, those of modules, and those of recipes: each is in one of these
-abbrev pub as_disabled : Alias Namepath → Option Meaning → List Disabled
+abbrev pub as_disabled : Alias Namepath → Option AliasMeaning → List Disabled
 as_disabled alias (Some (meaning.Disabled modules)) = record { name = alias.name; modules = modules } ∷ []
 as_disabled alias _ = []
 
-abbrev pub as_module_alias : Alias Namepath → Option Meaning → List (Alias Modulepath)
+abbrev pub as_module_alias : Alias Namepath → Option AliasMeaning → List (Alias Modulepath)
 as_module_alias alias (Some (meaning.Module path)) = aimed alias path ∷ []
 as_module_alias alias _ = []
 
-abbrev pub as_recipe_alias : Alias Namepath → Option Meaning → List (Alias Number)
+abbrev pub as_recipe_alias : Alias Namepath → Option AliasMeaning → List (Alias Number)
 as_recipe_alias alias (Some (meaning.Recipe number)) = aimed alias number ∷ []
 as_recipe_alias alias _ = []
 
@@ -99,7 +99,7 @@ abbrev pub aliases_of : Targets → List (Alias Namepath) → Aliases
 aliases_of t aliases = aliases_onto t no_aliases aliases
 
 -- tables with one more alias, which means this
-abbrev pub with_meaning : Aliases → Alias Namepath → Meaning → Aliases
+abbrev pub with_meaning : Aliases → Alias Namepath → AliasMeaning → Aliases
 with_meaning before alias it = record {
   disabled = put_all name_of_disabled_alias before.disabled (as_disabled alias (Some it));
   modules = put_all name_of_alias before.modules (as_module_alias alias (Some it));

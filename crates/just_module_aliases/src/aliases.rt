@@ -18,7 +18,7 @@ use std::collections::BTreeSet;
 
 /// What an alias is another name for.
 #[derive(Drop)]
-pub enum Meaning {
+pub enum AliasMeaning {
     /// What is not there, since these optional modules have no file.
     Disabled(BTreeSet<Modulepath>),
     /// The module at this path from the root.
@@ -35,14 +35,14 @@ fn meant_recipe<'src>(
     disabled: &Table<'src, Disabled<'src>>,
     modules: &[Justfile<'src>],
     recipes: &Table<'src, RecipeKey<'src>>,
-) -> Result<Option<Meaning>, AllocError>
+) -> Result<Option<AliasMeaning>, AllocError>
     requires { AreOrdered modules.now }
     ensures { let found = resolved_recipe absent.now disabled.now modules.now recipes.now path.now in
         IfOk result (λ it. it ≡ as_recipe found) }
 {
     match Resolution::resolve_recipe(alloc, path, absent, disabled, modules, recipes)? {
-        Some(Resolution::Disabled(modules)) => Ok(Some(Meaning::Disabled(modules))),
-        Some(Resolution::Resolved(number)) => Ok(Some(Meaning::Recipe(number))),
+        Some(Resolution::Disabled(modules)) => Ok(Some(AliasMeaning::Disabled(modules))),
+        Some(Resolution::Resolved(number)) => Ok(Some(AliasMeaning::Recipe(number))),
         None => Ok(None),
     }
 }
@@ -55,14 +55,14 @@ fn meant<'src>(
     disabled: &Table<'src, Disabled<'src>>,
     modules: &[Justfile<'src>],
     recipes: &Table<'src, RecipeKey<'src>>,
-) -> Result<Option<Meaning>, AllocError>
+) -> Result<Option<AliasMeaning>, AllocError>
     requires { AreOrdered modules.now }
     ensures { let t = targets absent.now disabled.now modules.now recipes.now in
         IfOk result (λ it. it ≡ alias_meant t path.now) }
 {
     match Resolution::resolve_module(alloc, path, absent, modules)? {
-        Some(Resolution::Disabled(set)) => Ok(Some(Meaning::Disabled(set))),
-        Some(Resolution::Resolved(path)) => Ok(Some(Meaning::Module(path))),
+        Some(Resolution::Disabled(set)) => Ok(Some(AliasMeaning::Disabled(set))),
+        Some(Resolution::Resolved(path)) => Ok(Some(AliasMeaning::Module(path))),
         None => meant_recipe(alloc, path, absent, disabled, modules, recipes),
     }
 }
@@ -71,16 +71,16 @@ fn meant<'src>(
 fn add_meaning<'src>(
     aliases: &mut Aliases<'src>,
     alias: &Alias<'src>,
-    meaning: Meaning,
+    meaning: AliasMeaning,
 ) -> Result<(), AllocError>
     ensures { OnOk result (aliases.new ≡ with_meaning aliases.old alias.now meaning) }
 {
     let name = alias.name.copied();
     match meaning {
-        Meaning::Disabled(modules) => {
+        AliasMeaning::Disabled(modules) => {
             aliases.disabled.insert(Disabled { name, modules })?;
         }
-        Meaning::Module(target) => {
+        AliasMeaning::Module(target) => {
             let attributes = alias.attributes.clone()?;
             aliases.modules.insert(Alias {
                 attributes,
@@ -88,7 +88,7 @@ fn add_meaning<'src>(
                 target,
             })?;
         }
-        Meaning::Recipe(target) => {
+        AliasMeaning::Recipe(target) => {
             let attributes = alias.attributes.clone()?;
             aliases.recipes.insert(Alias {
                 attributes,

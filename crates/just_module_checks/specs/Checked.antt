@@ -15,7 +15,7 @@ use Rattle.just_compiled.specs.Evaluated.{AreLabels, overridden_in}
 use Rattle.just_module_checks.specs.declared.checks.Checked.{Checked}
 use Rattle.just_names.specs.declared.number.Number.{Number}
 use Rattle.just_module_contents.specs.declared.labels.Label.{Label}
-use Rattle.just_parts.specs.Evaluator.{values_of}
+use Rattle.just_parts.specs.Evaluator.{scope_values}
 use Rattle.just_parts.specs.Layers.{Layers}
 use Rattle.just_parts.specs.Needs.{same_number}
 
@@ -28,7 +28,7 @@ pub record HasConstants (layers : Layers) (m : Contents) (variables : Variables)
   pub resolved : AreVariablesOf layers.syntax m variables
   pub numbers : HasNumbers variables
   pub evaluated : IsEvaluated layers m (evaluated_in constants)
-  pub covered : CoversAll variables (values_of constants.scope) (constant_expressions m)
+  pub covered : CoversAll variables (scope_values constants.scope) (constant_expressions m)
   pub overridden : constants.overridden.items ≡ overridden_in layers m
   pub overrides : (n : Number) → get same_number constants.overrides n ≡ last_of constants.overridden.items n
 
@@ -36,5 +36,5 @@ pub record HasConstants (layers : Layers) (m : Contents) (variables : Variables)
 pub record IsChecked (layers : Layers) (m : Contents) (said : List Label) (it : Checked) : Type 0 where
   pub contents : contents_in it.definitions ≡ m
   pub constants : HasConstants layers m it.variables it.constants
-  pub docs : Keeps (BreaksDocs layers.syntax layers.evaluator m (values_of it.constants.scope))
-  pub labels : AreLabels layers m (values_of it.constants.scope) said it.labels.items
+  pub docs : Keeps (BreaksDocs layers.syntax layers.evaluator m (scope_values it.constants.scope))
+  pub labels : AreLabels layers m (scope_values it.constants.scope) said it.labels.items

@@ -18,7 +18,7 @@ ghost use Rattle.just_module_variables.specs.Constants.{CoversAll};
 ghost use Rattle.just_module_variables.specs.Documented.{AreDocumentedIn};
 ghost use Rattle.just_module_variables.specs.Variables.{AreVariablesOf};
 ghost use Rattle.just_names.specs.Index.{AreDifferent};
-ghost use Rattle.just_parts.specs.Evaluator.{values_of};
+ghost use Rattle.just_parts.specs.Evaluator.{scope_values};
 ghost use Rattle.just_parts.specs.Layers.{given_by, layers_at};
 
 use just_module_assembly::labels_at;
@@ -108,14 +108,14 @@ fn documented_at<'a, 'b, 'src, S: Syntax, E: ConstantEvaluation>(
     requires places { All (λ p. p < length files.now.asts.items) places.now }
     requires said { contents_in definitions.now ≡ contents_from (S.answers given.now.syntax.now).enabled (asts_in files.now) places.now }
     requires variables { AreVariablesOf (S.answers given.now.syntax.now) (contents_in definitions.now) variables.now }
-    requires covered { CoversAll variables.now (values_of constants.now.scope) (constant_expressions (contents_in definitions.now)) }
+    requires covered { CoversAll variables.now (scope_values constants.now.scope) (constant_expressions (contents_in definitions.now)) }
     ensures kept { let m = contents_in definitions.now in
-        IfOk result (λ _. Keeps (BreaksDocs (S.answers given.now.syntax.now) (E.answers given.now.evaluation.now) m (values_of constants.now.scope))) }
+        IfOk result (λ _. Keeps (BreaksDocs (S.answers given.now.syntax.now) (E.answers given.now.evaluation.now) m (scope_values constants.now.scope))) }
     ensures labels { let said = said_from label_by (S.answers given.now.syntax.now).enabled (asts_in files.now) places.now in
         let m = contents_in definitions.now in
-        IfOk result (λ made. AreDocumentedIn (E.answers given.now.evaluation.now) m (values_of constants.now.scope) said made.items) }
+        IfOk result (λ made. AreDocumentedIn (E.answers given.now.evaluation.now) m (scope_values constants.now.scope) said made.items) }
     ensures named { let m = contents_in definitions.now in
-        IfErr result (Reports (BreaksDocs (S.answers given.now.syntax.now) (E.answers given.now.evaluation.now) m (values_of constants.now.scope))) }
+        IfErr result (Reports (BreaksDocs (S.answers given.now.syntax.now) (E.answers given.now.evaluation.now) m (scope_values constants.now.scope))) }
 {
     let labels = labels_at(given.alloc, files, given.syntax, places)?;
     document(

@@ -20,7 +20,7 @@ use Rattle.just_parts.specs.Items.{Ast, Item}
 use Rattle.just_ast_items.specs.declared.item.Item.TheVariants as item
 use Rattle.just_paths.specs.declared.modulepath.Modulepath.{Modulepath}
 use Rattle.just_parts.proofs.AstKeys.{key_same, keys_equivalent}
-use Rattle.just_module_headers.specs.Files.{ArePlaced, AreKeyPlaces, AreRows, HasPlaces, all_led, asts_in, led, led_from, led_in}
+use Rattle.just_module_headers.specs.Files.{ArePlaced, AreKeyPlaces, AreRows, HasPlaces, all_led, asts_in, keys_led_to, led_from, led_in}
 use Rattle.just_module_headers.specs.Reading.{Reading, Submodule, declared, enabled_items, imports_of, items_in, located_ast, reading_of, submodules_of}
 use Rattle.just_module_headers.specs.Joined.{AreGraphs}
 use Rattle.just_module_headers.proofs.Joining.{in_row}
@@ -28,7 +28,7 @@ use Rattle.just_module_headers.specs.declared.files.Files.{Files}
 use Rattle.just_module_headers.specs.declared.files.Rows.{Rows}
 
 -- where a located item leads
-led_located : (inside : Bool) (path : Modulepath) (i : Item) → led inside path (located_item i) ≡ led inside path i
+led_located : (inside : Bool) (path : Modulepath) (i : Item) → keys_led_to inside path (located_item i) ≡ keys_led_to inside path i
 led_located true path (item.Module name relative None attributes doc optional) = refl
 led_located true path (item.Module name relative (Some file) attributes doc optional) = refl
 led_located true path _ = refl
@@ -40,14 +40,14 @@ module _ (inside : Bool) (enabled : Item → Bool) (path : Modulepath) where
   abbrev counted : List Item → List Item
   counted items = map located_item (enabled_items enabled items)
 
-  one_led : (b : Bool) (i : Item) (items : List Item) → flat_map (led inside path) (map located_item (cond b (i ∷ enabled_items enabled items) (enabled_items enabled items))) ≡ cond b (led inside path i) [] ++ flat_map (led inside path) (counted items)
-  one_led true i items = ap (λ ks. ks ++ flat_map (led inside path) (counted items)) (led_located inside path i)
+  one_led : (b : Bool) (i : Item) (items : List Item) → flat_map (keys_led_to inside path) (map located_item (cond b (i ∷ enabled_items enabled items) (enabled_items enabled items))) ≡ cond b (keys_led_to inside path i) [] ++ flat_map (keys_led_to inside path) (counted items)
+  one_led true i items = ap (λ ks. ks ++ flat_map (keys_led_to inside path) (counted items)) (led_located inside path i)
   one_led false i items = refl
 
   -- the items that count lead to the same
-  pub led_counted : (items : List Item) → flat_map (led inside path) (counted items) ≡ all_led inside enabled path items
+  pub led_counted : (items : List Item) → flat_map (keys_led_to inside path) (counted items) ≡ all_led inside enabled path items
   led_counted [] = refl
-  led_counted (i ∷ items) = one_led (enabled (bare_item i)) i items ∙ ap (λ ks. cond (enabled (bare_item i)) (led inside path i) [] ++ ks) (led_counted items)
+  led_counted (i ∷ items) = one_led (enabled (bare_item i)) i items ∙ ap (λ ks. cond (enabled (bare_item i)) (keys_led_to inside path i) [] ++ ks) (led_counted items)
 
 inside_more : {n : ℕ} (p : ℕ) (row : List ℕ) → p < n → All (λ q. q < n) row → All (λ q. q < n) (p ∷ row)
 inside_more p row h all zero d l = h
@@ -81,9 +81,9 @@ module _ (keys : List AstKey) (d : AstKey) (table : AstKey → Option ℕ) (lead
       inside_more p row (slice_get_within keys p k (place_back k p head)) (places_inside found row rest)
 
 -- the own files of the modules that items declare
-pub keys_flat : (path : Modulepath) (items : List Item) → map (λ (s : Submodule). s.key) (flat_map (declared path) items) ≡ flat_map (led true path) items
+pub keys_flat : (path : Modulepath) (items : List Item) → map (λ (s : Submodule). s.key) (flat_map (declared path) items) ≡ flat_map (keys_led_to true path) items
 keys_flat path [] = refl
-keys_flat path (i ∷ items) = map-append (λ (s : Submodule). s.key) (declared path i) (flat_map (declared path) items) ∙ ap (λ ks. led true path i ++ ks) (keys_flat path items)
+keys_flat path (i ∷ items) = map-append (λ (s : Submodule). s.key) (declared path i) (flat_map (declared path) items) ∙ ap (λ ks. keys_led_to true path i ++ ks) (keys_flat path items)
 
 -- the entry at a place, by its key and its value
 entry_at : (es : List (AstKey × Ast)) (p : ℕ) → p < length (keys_of es) → (e : AstKey × Ast) × (slice_get es p ≡ Some e)
@@ -157,11 +157,11 @@ module _ (enabled : Item → Bool) (entries : List (AstKey × Ast)) (d : AstKey)
   key_count = sym (length-map files.keys.items (λ (k : Bor AstKey). k.now)) ∙ ap length placed.keys ∙ sym count
 
   -- the keys to which the items of the file at a place lead
-  led_here : (inside : Bool) (p : ℕ) → p < length keys → led_from inside enabled (asts_in files) p ≡ flat_map (led inside (key_at p).0) (items_in (R (key_at p)))
+  led_here : (inside : Bool) (p : ℕ) → p < length keys → led_from inside enabled (asts_in files) p ≡ flat_map (keys_led_to inside (key_at p).0) (items_in (R (key_at p)))
   led_here inside p h =
       let s = says p h in
       ap (led_in inside enabled) s.listed ∙ ap (λ path. all_led inside enabled path s.ast.items) s.path ∙ sym (led_counted inside enabled (key_at p).0 s.ast.items)
-      ∙ ap (λ o. flat_map (led inside (key_at p).0) (items_in (option_map (located_ast enabled) o))) (sym s.said)
+      ∙ ap (λ o. flat_map (keys_led_to inside (key_at p).0) (items_in (option_map (located_ast enabled) o))) (sym s.said)
 
   pub imports_here : (p : ℕ) → p < length keys → map key_at (targets rows.imports.items p) ≡ imports_of R (key_at p)
   imports_here p h =

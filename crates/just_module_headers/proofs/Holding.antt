@@ -12,7 +12,7 @@ use Rattle.just_parts.specs.Bare.{bare_item}
 use Rattle.just_parts.specs.Items.{Ast, Item}
 use Rattle.just_parts.proofs.AstKeys.{key_same, keys_equivalent}
 use Rattle.just_module_headers.specs.Analyzable.{AreAnalyzable}
-use Rattle.just_module_headers.specs.Files.{ArePlaced, HoldsAll, all_led, asts_in, led, led_by, led_from, led_in}
+use Rattle.just_module_headers.specs.Files.{ArePlaced, HoldsAll, all_led, asts_in, keys_led_to, led_by, led_from, led_in}
 use Rattle.just_module_headers.specs.declared.files.Files.{Files}
 
 all_by : (P : AstKey → Type 0) (xs : List AstKey) → ((x : AstKey) → In x xs → P x) → AllByRecursion P xs
@@ -52,8 +52,8 @@ module _ (enabled : Item → Bool) (entries : List (AstKey × Ast)) (files : Fil
       let k = ast_held p ast e in
       all_by (λ l. IsSome (get same_ast_key files.places l)) (all_led inside enabled ast.module_path ast.items) (λ l h.
       let i = from_flat (led_by inside enabled ast.module_path) l ast.items h in
-      let counts = led_counts (enabled (bare_item i.0)) l (led inside ast.module_path i.0) i.2 in
-      place_known l (can.closed k.0 ast i.0 inside l k.1 (contained i.0 ast.items i.1) counts.0 (contained l (led inside ast.module_path i.0) counts.1)))
+      let counts = led_counts (enabled (bare_item i.0)) l (keys_led_to inside ast.module_path i.0) i.2 in
+      place_known l (can.closed k.0 ast i.0 inside l k.1 (contained i.0 ast.items i.1) counts.0 (contained l (keys_led_to inside ast.module_path i.0) counts.1)))
 
   -- the keys to which items lead have places
   pub holds_all : (inside : Bool) (p : ℕ) → HoldsAll (get same_ast_key files.places) (led_from inside enabled (asts_in files) p)

@@ -8,7 +8,7 @@ use Rattle.just_parts.specs.Bare.{bare_item}
 use Rattle.just_parts.specs.Items.{Ast, Item}
 use Rattle.just_module_contents.specs.Said.{said}
 use Rattle.just_ast_definitions.specs.declared.assignment.Assignment.{Assignment}
-use Rattle.just_module_headers.specs.Files.{led}
+use Rattle.just_module_headers.specs.Files.{keys_led_to}
 use Rattle.just_module_contents.specs.Named.{variable_by}
 use Rattle.just_module_contents.specs.Recipes.{recipes_of}
 use Rattle.just_module_contents.specs.Resolved.{HasPriors, unresolved_numbers}
@@ -23,7 +23,7 @@ assignment_numbers = map (λ (a : Assignment). a.number.0)
 
 -- Asts hold every key that an enabled item leads to, each under the path of its module; no two recipes have one number, nor have two variables, and no recipe has more priors than dependencies.
 pub record AreAnalyzable (enabled : Item → Bool) (asts : AstKey → Option Ast) : Type 0 where
-  pub closed : (k : AstKey) (ast : Ast) (i : Item) (inside : Bool) (l : AstKey) → asts k ≡ Some ast → Contains ast.items i → enabled (bare_item i) ≡ true → Contains (led inside ast.module_path i) l → IsSome (asts l)
+  pub closed : (k : AstKey) (ast : Ast) (i : Item) (inside : Bool) (l : AstKey) → asts k ≡ Some ast → Contains ast.items i → enabled (bare_item i) ≡ true → Contains (keys_led_to inside ast.module_path i) l → IsSome (asts l)
   pub paths : (k : AstKey) (ast : Ast) → asts k ≡ Some ast → ast.module_path ≡ k.0
   pub once : (k : AstKey) (ast : Ast) → asts k ≡ Some ast → IsOnce (unresolved_numbers (recipes_of enabled ast.items))
   pub apart : (k l : AstKey) (a b : Ast) (m : ℕ) → asts k ≡ Some a → asts l ≡ Some b → (k ≡ l → ⊥) → Contains (unresolved_numbers (recipes_of enabled a.items)) m → Contains (unresolved_numbers (recipes_of enabled b.items)) m → ⊥

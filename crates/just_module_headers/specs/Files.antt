@@ -31,13 +31,13 @@ pub record ArePlaced (entries : List (AstKey × Ast)) (files : Files) : Type 0 w
   pub places : HasPlaces (keys_of entries) (get same_ast_key files.places)
 
 -- the keys to which an item of a module's file leads: those of modules, or of imports
-abbrev pub led : Bool → Modulepath → Item → List AstKey
-led true path i = map (λ (s : Submodule). s.key) (declared path i)
-led false path i = imported path i
+abbrev pub keys_led_to : Bool → Modulepath → Item → List AstKey
+keys_led_to true path i = map (λ (s : Submodule). s.key) (declared path i)
+keys_led_to false path i = imported path i
 
 -- the same where it is enabled
 abbrev pub led_by : Bool → (Item → Bool) → Modulepath → Item → List AstKey
-led_by inside enabled path i = if enabled (bare_item i) then led inside path i else []
+led_by inside enabled path i = if enabled (bare_item i) then keys_led_to inside path i else []
 
 -- the keys to which items lead
 abbrev pub all_led : Bool → (Item → Bool) → Modulepath → List Item → List AstKey

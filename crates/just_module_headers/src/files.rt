@@ -5,7 +5,7 @@ ghost use Rattle.std.specs.HashMap.{get};
 ghost use Rattle.std.specs.Option.{option_to_list};
 ghost use Rattle.just_graph.specs.Building.{EachRow};
 ghost use Rattle.just_parts.specs.Asts.{same_ast_key};
-ghost use Rattle.just_module_headers.specs.Files.{ArePlaced, AreKeyPlaces, AreRows, HoldsAll, HoldsEach, asts_in, led, led_from};
+ghost use Rattle.just_module_headers.specs.Files.{ArePlaced, AreKeyPlaces, AreRows, HoldsAll, HoldsEach, asts_in, keys_led_to, led_from};
 ghost use Rattle.just_module_headers.specs.loops.Files.{AreRowsOf, led_of};
 
 use just_data::Text;
@@ -42,7 +42,7 @@ fn key_of_item<'src>(
     inside: bool,
     path: &Modulepath,
 ) -> Result<Option<(Modulepath, Text)>, AllocError>
-    ensures { IfOk result (λ key. option_to_list key ≡ led inside path.now item.now) }
+    ensures { IfOk result (λ key. option_to_list key ≡ keys_led_to inside path.now item.now) }
 {
     match (inside, item) {
         (

@@ -16,7 +16,7 @@ use Rattle.just_parts.specs.Syntax.{SyntaxAnswers}
 use Rattle.just_recipe.specs.Grouping.{grouped, share}
 use Rattle.just_recipe.specs.declared.dependency.UnresolvedDependency.{UnresolvedDependency}
 use Rattle.just_recipe.specs.declared.recipe.Recipe.{Recipe}
-use Rattle.just_recipe_names.specs.Numbered.{dependency_by, given_by, number_under, numbered_by, numbered_parameters, under}
+use Rattle.just_recipe_names.specs.Numbered.{dependency_by, given_by, number_under, numbered_by, numbered_parameters, under_parameters}
 use Rattle.just_recipe_values.specs.Valued.{informed, valued_named}
 
 -- arguments are grouped for parameters with numbers as for those without
@@ -45,8 +45,8 @@ is_completing answers evaluator it =
       name = λ r. refl;
       number = λ r. refl;
       priors = λ r. refl;
-      paths = λ r. same_paths (under number r.parameters) r.dependencies;
-      counts = λ r. same_counts (under number r.parameters) r.dependencies;
+      paths = λ r. same_paths (under_parameters number r.parameters) r.dependencies;
+      counts = λ r. same_counts (under_parameters number r.parameters) r.dependencies;
       grouping = λ lists r arguments.
           grouped_informed (map (valued_named (value_here answers evaluator it)) (numbered r).attributes) lists (numbered r).parameters arguments
           ∙ grouped_alike number lists [] r.parameters arguments;

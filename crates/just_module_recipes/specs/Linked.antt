@@ -13,7 +13,7 @@ use Rattle.just_names.specs.Name.{text_of_name}
 use Rattle.just_names.specs.declared.name.Namepath.{Namepath}
 use Rattle.just_names.specs.declared.number.Number.{Number}
 use Rattle.just_paths.specs.declared.modulepath.Modulepath.{Modulepath}
-use Rattle.just_recipe.specs.Grouping.{grouped, joined}
+use Rattle.just_recipe.specs.Grouping.{grouped, concatenated}
 use Rattle.just_recipe.specs.Recipes.{IsResolved, find_number}
 use Rattle.just_recipe.specs.declared.dependency.Dependency.{Dependency}
 use Rattle.just_recipe.specs.declared.dependency.UnresolvedDependency.{UnresolvedDependency}
@@ -39,7 +39,7 @@ module _ (Stands : Text → Type 0) (HasNumber : Namepath → Number → Type 0)
     pub target : Recipe Dependency
     pub held : find_number all made.recipe.0 ≡ Some target
     pub arguments : made.arguments ≡ grouped lists target.parameters d.arguments
-    pub whole : joined made.arguments ≡ d.arguments
+    pub whole : concatenated made.arguments ≡ d.arguments
 
   -- What is made of a recipe of the module at a path: it is that of the source, completed, with the numbers of what it needs, and each of its dependencies is linked.
   pub record IsMadeOf (path : Modulepath) (source : Recipe UnresolvedDependency) (made : Recipe Dependency) : Type 0 where

@@ -12,7 +12,7 @@ use Rattle.just_errors.specs.Causes.{Keeps}
 use Rattle.just_parts.specs.Items.{Ast, Item}
 use Rattle.just_parts.specs.Bare.{bare_item}
 use Rattle.just_module_headers.specs.Analyzable.{AreAnalyzable}
-use Rattle.just_module_headers.specs.Files.{all_led, led, led_by}
+use Rattle.just_module_headers.specs.Files.{all_led, keys_led_to, led_by}
 use Rattle.just_module_contents.specs.Groups.{Breaks}
 use Rattle.just_module_tree.specs.Groups.{KeepsModules, BreaksModules, in_module}
 use Rattle.just_module_tree.specs.Modules.{AreModules, Empty, Forest, HasModule, Heading, IsHeading, IsModule, Module, Tree, a_module, after_it, contents_of, first, heading_of, headings_in, in_it, no_module, of_module, of_root, path_of}
@@ -192,14 +192,14 @@ module _ (enabled : Item → Bool) (asts : AstKey → Option Ast) (can : AreAnal
   abbrev S : Reading
   S = reading_of enabled asts
 
-  led_held : (inside : Bool) (k l : AstKey) → Holds k → In l (flat_map (led inside k.0) (items_in (S k))) → Holds l
+  led_held : (inside : Bool) (k l : AstKey) → Holds k → In l (flat_map (keys_led_to inside k.0) (items_in (S k))) → Holds l
   led_held inside k l held h =
       let a : Ast = held.0 in
       let all : In l (all_led inside enabled k.0 a.items) =
-      subst (In l) (ap (λ o. flat_map (led inside k.0) (items_in (option_map (located_ast enabled) o))) held.1 ∙ led_counted inside enabled k.0 a.items) h in
+      subst (In l) (ap (λ o. flat_map (keys_led_to inside k.0) (items_in (option_map (located_ast enabled) o))) held.1 ∙ led_counted inside enabled k.0 a.items) h in
       let i = from_flat (led_by inside enabled k.0) l a.items all in
-      let counts = led_counts (enabled (bare_item i.0)) l (led inside k.0 i.0) i.2 in
-      let there : Contains (led inside a.module_path i.0) l = subst (λ m. Contains (led inside m i.0) l) (sym (can.paths k a held.1)) (contained l (led inside k.0 i.0) counts.1) in
+      let counts = led_counts (enabled (bare_item i.0)) l (keys_led_to inside k.0 i.0) i.2 in
+      let there : Contains (keys_led_to inside a.module_path i.0) l = subst (λ m. Contains (keys_led_to inside m i.0) l) (sym (can.paths k a held.1)) (contained l (keys_led_to inside k.0 i.0) counts.1) in
       some_value (asts l) (can.closed k a i.0 inside l held.1 (contained i.0 a.items i.1) counts.0 there)
 
   modules_held : (k : AstKey) (s : Submodule) → Holds k → In s (submodules_of S k) → Holds s.key

@@ -6,7 +6,7 @@ use Rattle.just_errors.specs.Causes.{Cause, NoVariables}
 use Rattle.just_module_contents.specs.Contents.{variable_names}
 use Rattle.just_module_contents.specs.Kept.{kept_variables}
 use Rattle.just_module_tree.specs.Modules.{Empty, Forest, Module, Tree, contents_of}
-use Rattle.just_module_tree.specs.Standing.{In, find_inner, follow}
+use Rattle.just_module_tree.specs.Standing.{InModule, find_inner, follow}
 use Rattle.just_names.specs.Index.{texts_of_names}
 use Rattle.just_names.specs.Name.{text_of_name, texts_of_path}
 use Rattle.just_names.specs.Texts.{Text, text_of}
@@ -25,7 +25,7 @@ shown_key key = text_of (key.0.components ++ key.1 ∷ []) key.0.spaced
 pub data StepsTo (m : Module) (inside : Forest) (name : Text) (n : Module) (within : Forest) : Type 0 where
   to_inner : find_inner name inside ≡ Some (n, within) → StepsTo m inside name n within
   to_aliased : (alias : Alias Namepath) → find_inner name inside ≡ None → Contains (contents_of m).aliases alias → text_of_name alias.name ≡ name
-      → follow (texts_of_path alias.target) m inside ≡ In n within → StepsTo m inside name n within
+      → follow (texts_of_path alias.target) m inside ≡ InModule n within → StepsTo m inside name n within
 
 -- Names lead from a module to another one, one after another. It is the least such relation.
 pub data Reaches : Module → Forest → List Text → Module → Forest → Type 0 where

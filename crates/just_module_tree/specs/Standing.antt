@@ -40,19 +40,19 @@ find_inner name (Tree m inside after) = if bytes_eq (name_in m) name then Some (
 
 -- Where names lead from a module: into one, with those in it, to one without a file, told by the names up to it, or to no module.
 pub data WalkEnd : Type 0 where
-  In : Module → Forest → WalkEnd
+  InModule : Module → Forest → WalkEnd
   Missing : List Text → WalkEnd
   Nowhere : WalkEnd
 
 -- where names lead of which the first leads into a module, by where the others lead from there
 abbrev pub beyond : Text → WalkEnd → WalkEnd
-beyond name (In m inside) = In m inside
+beyond name (InModule m inside) = InModule m inside
 beyond name (Missing names) = Missing (name ∷ names)
 beyond name Nowhere = Nowhere
 
 -- where names lead: a module that is there goes before one of its name without a file
 abbrev pub follow : List Text → Module → Forest → WalkEnd
-follow [] m inside = In m inside
+follow [] m inside = InModule m inside
 follow (name ∷ names) m inside = elim (find_inner name inside) as (λ _. WalkEnd) [
   | Some n ↦ beyond name (follow names n.0 n.1)
   | None ↦ if list_any (λ absent. bytes_eq absent name) (absent_in m) then Missing (name ∷ []) else Nowhere
@@ -66,7 +66,7 @@ leads m inside path = follow (map text_of_name path.front) m inside
 pub data DisabledBy : Module → Forest → Text → Modulepath → Type 0 where
   through_absent : {m : Module} {inside : Forest} {name : Text} (d : Namepath) (names : List Text) → DependsBy (kept_in m) name d → leads m inside d ≡ Missing names
       → DisabledBy m inside name (record { components = names; spaced = false })
-  by_disabled : {m : Module} {inside : Forest} {name : Text} {path : Modulepath} (d : Namepath) (n : Module) (below : Forest) → DependsBy (kept_in m) name d → leads m inside d ≡ In n below
+  by_disabled : {m : Module} {inside : Forest} {name : Text} {path : Modulepath} (d : Namepath) (n : Module) (below : Forest) → DependsBy (kept_in m) name d → leads m inside d ≡ InModule n below
       → DisabledBy n below (text_of_name d.last) path → DisabledBy m inside name path
 
 -- nothing disables it
@@ -75,7 +75,7 @@ StandsInTree m inside name = (path : Modulepath) → DisabledBy m inside name pa
 
 -- a path leads to a recipe, or through a module without a file
 abbrev pub EndsWell : WalkEnd → Text → Type 0
-EndsWell (In n below) name = Contains (names_of (kept_in n)) name
+EndsWell (InModule n below) name = Contains (names_of (kept_in n)) name
 EndsWell (Missing names) name = Unit {0}
 EndsWell Nowhere name = ⊥
 
@@ -86,7 +86,7 @@ LeadsSomewhere m inside path = EndsWell (leads m inside path) (text_of_name path
 pub record TakesIn (lists : Bool) (m : Module) (inside : Forest) (path : Namepath) (least most : ℕ) : Type 0 where
   pub n : Module
   pub below : Forest
-  pub leads_in : leads m inside path ≡ In n below
+  pub leads_in : leads m inside path ≡ InModule n below
   pub j : ℕ
   pub there : j < length (kept_in n)
   pub named : name_of (recipe_at (kept_in n) j) ≡ text_of_name path.last

@@ -14,7 +14,7 @@ use Rattle.just_module_contents.specs.Contents.{Contents}
 use Rattle.just_module_contents.specs.Kept.{kept_variables}
 use Rattle.just_module_contents.specs.Known.{known_of, variables_under}
 use Rattle.just_module_variables.specs.Numbered.{name_of_assignment, numbered_assignment}
-use Rattle.just_parts.specs.Evaluator.{Binds, Covers, FaultsAt, bare_set, functions_by_name, set_expressions, values_of, wanted_by}
+use Rattle.just_parts.specs.Evaluator.{Binds, Covers, FaultsAt, bare_set, functions_by_name, set_expressions, scope_values, wanted_by}
 use Rattle.just_parts.specs.Known.{Known, known, none_hidden, sources}
 use Rattle.just_parts.specs.Layers.{Layers}
 use Rattle.just_parts.specs.Needs.{AreNeededBy, HaveNumbersApart, IsClosed, has_number, same_number}
@@ -80,34 +80,34 @@ module _ (layers : Layers) (m : Contents) (vs : List (Text × Assignment)) (fs :
     pub no_constants : (e : Error) → FaultsAt (layers.evaluator.constants (wanted_by vs fs (get same_number overrides) set lists)) e → Reports (BreaksConstants layers m) e
     no_constants e h = constants_told layers m (wanted_by vs fs (get same_number overrides) set lists) asks e h
 
-    module _ (scope : Scope) (answered : layers.evaluator.constants (wanted_by vs fs (get same_number overrides) set lists) ≡ Some (values_of scope))
+    module _ (scope : Scope) (answered : layers.evaluator.constants (wanted_by vs fs (get same_number overrides) set lists) ≡ Some (scope_values scope))
         (binds : Binds vs (wanted_by vs fs (get same_number overrides) set lists) scope) where
-      are_constants : AreConstants layers m (values_of scope)
+      are_constants : AreConstants layers m (scope_values scope)
       are_constants = record { wanted = wanted_by vs fs (get same_number overrides) set lists; asked = asks; answered = answered }
 
-      pub covered : (e : Expression) → Contains (constant_expressions m) e → Covers (sources vs fs) (values_of scope) e
+      pub covered : (e : Expression) → Contains (constant_expressions m) e → Covers (sources vs fs) (scope_values scope) e
       covered e there name r =
           binds.exactly name
           ∙ tables_read layers.syntax m vs fs order is layers.overrides (constant_expressions m) (sets_lists m.sets) (get same_number overrides) set says apart needed_constants e there name r
 
-      pub settings_covered : All (Covers (sources vs fs) (values_of scope)) (flat_map set_expressions sets)
+      pub settings_covered : All (Covers (sources vs fs) (scope_values scope)) (flat_map set_expressions sets)
       settings_covered =
-          subst (λ (ss : List Set). All (Covers (sources vs fs) (values_of scope)) (flat_map set_expressions ss)) (sym set_are)
-          (All-weaker (Contains (settings_expressions m)) (Covers (sources vs fs) (values_of scope))
+          subst (λ (ss : List Set). All (Covers (sources vs fs) (scope_values scope)) (flat_map set_expressions ss)) (sym set_are)
+          (All-weaker (Contains (settings_expressions m)) (Covers (sources vs fs) (scope_values scope))
           (λ e there. covered e (Contains-append_left (settings_expressions m ++ flat_map recipe_expressions m.recipes) m.docs e (Contains-append_left (settings_expressions m) (flat_map recipe_expressions m.recipes) e there)))
           (settings_expressions m) (All-contains_itself (settings_expressions m)))
 
-      settings_same : settings_among layers m (values_of scope) ≡ layers.evaluator.settings (functions_by_name fs) (values_of scope) (map bare_set sets)
+      settings_same : settings_among layers m (scope_values scope) ≡ layers.evaluator.settings (functions_by_name fs) (scope_values scope) (map bare_set sets)
       settings_same =
           let functions = tables_functions layers.syntax m vs fs order is in
-          λ i. layers.evaluator.settings (sym functions i) (values_of scope) (map bare_set (sym set_are i))
+          λ i. layers.evaluator.settings (sym functions i) (scope_values scope) (map bare_set (sym set_are i))
 
-      pub no_settings : (e : Error) → FaultsAt (layers.evaluator.settings (functions_by_name fs) (values_of scope) (map bare_set sets)) e → Reports (BreaksConstants layers m) e
-      no_settings e h = settings_told layers m (values_of scope) are_constants e (subst (λ (o : Option Settings). FaultsAt o e) (sym settings_same) h)
+      pub no_settings : (e : Error) → FaultsAt (layers.evaluator.settings (functions_by_name fs) (scope_values scope) (map bare_set sets)) e → Reports (BreaksConstants layers m) e
+      no_settings e h = settings_told layers m (scope_values scope) are_constants e (subst (λ (o : Option Settings). FaultsAt o e) (sym settings_same) h)
 
-      pub evaluated : (settings : Settings) → layers.evaluator.settings (functions_by_name fs) (values_of scope) (map bare_set sets) ≡ Some settings → IsEvaluated layers m (record { constants = values_of scope; settings = settings })
+      pub evaluated : (settings : Settings) → layers.evaluator.settings (functions_by_name fs) (scope_values scope) (map bare_set sets) ≡ Some settings → IsEvaluated layers m (record { constants = scope_values scope; settings = settings })
       evaluated settings h = record { constants = are_constants; settings = settings_same ∙ h }
 
-      pub kept : (settings : Settings) → layers.evaluator.settings (functions_by_name fs) (values_of scope) (map bare_set sets) ≡ Some settings
+      pub kept : (settings : Settings) → layers.evaluator.settings (functions_by_name fs) (scope_values scope) (map bare_set sets) ≡ Some settings
           → (ss : List Expression) → ss ≡ settings_expressions m → ((e : Expression) → Contains ss e → Keeps (Misnames tables none_hidden e)) → Keeps (BreaksConstants layers m)
-      kept settings h ss sets names = constants_kept layers m (record { constants = values_of scope; settings = settings }) (evaluated settings h) (settings_named ss sets names)
+      kept settings h ss sets names = constants_kept layers m (record { constants = scope_values scope; settings = settings }) (evaluated settings h) (settings_named ss sets names)

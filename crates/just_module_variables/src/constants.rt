@@ -11,7 +11,7 @@ ghost use Rattle.just_errors.specs.Causes.{Keeps, Reports};
 ghost use Rattle.just_module_contents.specs.Constants as rule;
 ghost use Rattle.just_module_contents.specs.Definitions.{contents_in, sets_in};
 ghost use Rattle.just_module_contents.specs.Recipes.{lent};
-ghost use Rattle.just_parts.specs.Evaluator.{FaultsAt, bare_set, functions_by_name, values_of};
+ghost use Rattle.just_parts.specs.Evaluator.{FaultsAt, bare_set, functions_by_name, scope_values};
 ghost use Rattle.just_parts.specs.Known.{none_hidden};
 ghost use Rattle.just_parts.specs.Layers.{given_by, layers_at, override_at};
 ghost use Rattle.just_parts.specs.Needs.{HaveNumbersApart, same_number};
@@ -107,10 +107,10 @@ fn settings_of<'a, 'src, E: ConstantEvaluation>(
     constants: &Scope<'src>,
     evaluation: &E,
 ) -> Result<Settings, Error<'src>>
-    requires { CoversSets variables.now (values_of constants.now) (sets_in definitions.now) }
-    ensures settings { let answer = (E.answers evaluation.now).settings (functions_by_name variables.now.functions) (values_of constants.now) in
+    requires { CoversSets variables.now (scope_values constants.now) (sets_in definitions.now) }
+    ensures settings { let answer = (E.answers evaluation.now).settings (functions_by_name variables.now.functions) (scope_values constants.now) in
         IfOk result (λ made. answer (map bare_set (sets_in definitions.now)) ≡ Some made) }
-    ensures refused { let answer = (E.answers evaluation.now).settings (functions_by_name variables.now.functions) (values_of constants.now) in
+    ensures refused { let answer = (E.answers evaluation.now).settings (functions_by_name variables.now.functions) (scope_values constants.now) in
         IfErr result (FaultsAt (answer (map bare_set (sets_in definitions.now)))) }
 {
     let sets = copied_sets(alloc, definitions)?;
@@ -137,7 +137,7 @@ pub fn evaluate_constants<'k, 'a, 'src, S: Syntax, E: ConstantEvaluation>(
         IfOk result (λ _. Keeps (rule.BreaksConstants (layers_at given path.now) (contents_in definitions.now))) }
     ensures evaluated { let given = given_by S.answers E.answers given.now in
         IfOk result (λ it. rule.IsEvaluated (layers_at given path.now) (contents_in definitions.now) (evaluated_in it)) }
-    ensures covered { IfOk result (λ it. CoversAll variables.now (values_of it.scope) (rule.constant_expressions (contents_in definitions.now))) }
+    ensures covered { IfOk result (λ it. CoversAll variables.now (scope_values it.scope) (rule.constant_expressions (contents_in definitions.now))) }
     ensures overridden { let found = overridden_among (override_at given.now.config.now.overrides path.now) (contents_in definitions.now) in
         IfOk result (λ it. it.overridden.items ≡ found) }
     ensures overrides { IfOk result (λ it. (n : Number) → get same_number it.overrides n ≡ last_of it.overridden.items n) }

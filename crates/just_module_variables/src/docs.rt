@@ -8,7 +8,7 @@ ghost use Rattle.just_module_variables.specs.Variables.{AreVariablesOf};
 ghost use Rattle.just_errors.specs.Causes.{Keeps, Reports};
 ghost use Rattle.just_module_contents.specs.Constants.{BreaksDocs};
 ghost use Rattle.just_module_contents.specs.Definitions.{contents_in, docs_in};
-ghost use Rattle.just_parts.specs.Evaluator.{values_of};
+ghost use Rattle.just_parts.specs.Evaluator.{scope_values};
 
 use crate::variables::Variables;
 use just_data::copied;
@@ -25,10 +25,10 @@ fn documented<'k, 'src, S: Syntax, E: ConstantEvaluation>(
     variables: &'k Variables<'src>,
     constants: &Scope<'src>,
 ) -> Result<Label<'src>, Error<'src>>
-    requires { CoversDoc variables.now (values_of constants.now) label.now }
+    requires { CoversDoc variables.now (scope_values constants.now) label.now }
     ensures kept { IfOk result (λ _. KeepsDoc (S.answers given.now.syntax.now) variables.now label.now) }
-    ensures label { IfOk result (IsDocumented (value_by (E.answers given.now.evaluation.now) variables.now (values_of constants.now)) label.now) }
-    ensures named { let value = value_by (E.answers given.now.evaluation.now) variables.now (values_of constants.now) in
+    ensures label { IfOk result (IsDocumented (value_by (E.answers given.now.evaluation.now) variables.now (scope_values constants.now)) label.now) }
+    ensures named { let value = value_by (E.answers given.now.evaluation.now) variables.now (scope_values constants.now) in
         IfErr result (Reports (DocFault (known_by (S.answers given.now.syntax.now) variables.now) value label.now.doc_expression)) }
 {
     let mut made = copied(label)?;
@@ -64,13 +64,13 @@ pub fn document<'k, 'a, 'src, S: Syntax, E: ConstantEvaluation>(
 ) -> Result<Vec<Label<'src>>, Error<'src>>
     requires docs { docs_in definitions.now ≡ doc_expressions labels.now }
     requires variables { AreVariablesOf (S.answers given.now.syntax.now) (contents_in definitions.now) variables.now }
-    requires covered { CoversAll variables.now (values_of constants.now) (docs_in definitions.now) }
+    requires covered { CoversAll variables.now (scope_values constants.now) (docs_in definitions.now) }
     ensures kept { let docs = BreaksDocs (S.answers given.now.syntax.now) (E.answers given.now.evaluation.now) in
-        IfOk result (λ _. Keeps (docs (contents_in definitions.now) (values_of constants.now))) }
+        IfOk result (λ _. Keeps (docs (contents_in definitions.now) (scope_values constants.now))) }
     ensures labels { let m = contents_in definitions.now in
-        IfOk result (λ made. AreDocumentedIn (E.answers given.now.evaluation.now) m (values_of constants.now) labels.now made.items) }
+        IfOk result (λ made. AreDocumentedIn (E.answers given.now.evaluation.now) m (scope_values constants.now) labels.now made.items) }
     ensures named { let docs = BreaksDocs (S.answers given.now.syntax.now) (E.answers given.now.evaluation.now) in
-        IfErr result (Reports (docs (contents_in definitions.now) (values_of constants.now))) }
+        IfErr result (Reports (docs (contents_in definitions.now) (scope_values constants.now))) }
 {
     let mut made = Vec::with_capacity(given.alloc, labels.len())?;
     for label in labels {

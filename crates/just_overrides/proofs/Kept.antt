@@ -48,20 +48,20 @@ next_place names x absent found = elim found as (λ _. WalkEnd) [
   | None ↦ if absent then trees.Missing (x ∷ []) else trees.Nowhere
 ]
 
-beyond_in : (x : Text) (n : Module) (within : Forest) (p : WalkEnd) → trees.beyond x p ≡ trees.In n within → p ≡ trees.In n within
-beyond_in x n within (trees.In m inside) e = e
+beyond_in : (x : Text) (n : Module) (within : Forest) (p : WalkEnd) → trees.beyond x p ≡ trees.InModule n within → p ≡ trees.InModule n within
+beyond_in x n within (trees.InModule m inside) e = e
 beyond_in x n within (trees.Missing names) e = cc
 beyond_in x n within trees.Nowhere e = cc
 
-pub once_followed : (names : List Text) (m : Module) (inside : Forest) (n : Module) (within : Forest) → OnceNamed (contents_of m).aliases → OnceAll inside → follow names m inside ≡ trees.In n within → Once n within
+pub once_followed : (names : List Text) (m : Module) (inside : Forest) (n : Module) (within : Forest) → OnceNamed (contents_of m).aliases → OnceAll inside → follow names m inside ≡ trees.InModule n within → Once n within
 once_followed [] m inside n within once all e =
     let en : m ≡ n = cc in
     let ew : inside ≡ within = cc in
     subst (λ w. Once n w) ew (subst (λ x. Once x inside) en (once, all))
 once_followed (x ∷ names) m inside n within once all e = go (λ k. once_followed names k.0 k.1 n within) (list_any (λ absent. bytes_eq absent x) (absent_in m)) (find_inner x inside) refl e
   where
-    go : ((k : Module × Forest) → OnceNamed (contents_of k.0).aliases → OnceAll k.1 → follow names k.0 k.1 ≡ trees.In n within → Once n within)
-        → (absent : Bool) (found : Option (Module × Forest)) → find_inner x inside ≡ found → next_place names x absent found ≡ trees.In n within → Once n within
+    go : ((k : Module × Forest) → OnceNamed (contents_of k.0).aliases → OnceAll k.1 → follow names k.0 k.1 ≡ trees.InModule n within → Once n within)
+        → (absent : Bool) (found : Option (Module × Forest)) → find_inner x inside ≡ found → next_place names x absent found ≡ trees.InModule n within → Once n within
     go inner true None f g = cc
     go inner false None f g = cc
     go inner absent (Some k) f g =

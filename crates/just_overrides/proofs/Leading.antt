@@ -13,8 +13,8 @@ use Rattle.just_justfile.specs.Walks.{End, end_of_names, inner_along, module_nam
 use Rattle.just_justfile.specs.declared.aliases.Aliases.{Aliases}
 use Rattle.just_justfile.specs.declared.justfile.Justfile.{Justfile, out-Justfile}
 use Rattle.just_module_aliases.specs.Aliased.{aimed, as_module_alias, as_recipe, alias_meant, modules_among, name_of_alias, targets_of}
-use Rattle.just_module_aliases.specs.declared.aliases.Meaning.{Meaning}
-use Rattle.just_module_aliases.specs.declared.aliases.Meaning.TheVariants as meaning
+use Rattle.just_module_aliases.specs.declared.aliases.AliasMeaning.{AliasMeaning}
+use Rattle.just_module_aliases.specs.declared.aliases.AliasMeaning.TheVariants as meaning
 use Rattle.just_module_tree.specs.Modules.{Forest, Module, contents_of}
 use Rattle.just_module_tree.specs.Overrides.{Reaches, StepsTo, at_end, by_step, to_aliased, to_inner}
 use Rattle.just_module_tree.specs.Standing as trees
@@ -45,7 +45,7 @@ stands_through standing.itself s = s
 stands_through (standing.inside there t) s = standing.inside there (stands_through t s)
 
 -- an alias of a module has the name of what it was made of
-module_alias_name : (a : Alias Namepath) (made : Alias Modulepath) (o : Option Meaning) → In made (as_module_alias a o) → made.name ≡ a.name
+module_alias_name : (a : Alias Namepath) (made : Alias Modulepath) (o : Option AliasMeaning) → In made (as_module_alias a o) → made.name ≡ a.name
 module_alias_name a made None i = absurd i
 module_alias_name a made (Some (meaning.Disabled set)) i = absurd i
 module_alias_name a made (Some (meaning.Module path)) (inl e) = ap (λ (x : Alias Modulepath). x.name) e
@@ -60,7 +60,7 @@ by_steps R here onward (at_end {m} {inside}) = here m inside
 by_steps R here onward (by_step {m} {n} {to} {inside} {within} {under} {name} {names} s r) = onward m n to inside within under name names s (by_steps R here onward r)
 
 module _ (given : Given) (asts : AstKey → Option Ast) (loaded : List Text) (built : List Built) where
-  one_place : (n m : Module) (within under : Forest) → trees.In n within ≡ trees.In m under → ◌≡◌ {A = Module × Forest} (n, within) (m, under)
+  one_place : (n m : Module) (within under : Forest) → trees.InModule n within ≡ trees.InModule m under → ◌≡◌ {A = Module × Forest} (n, within) (m, under)
   one_place n m within under e =
       let en : n ≡ m = cc in
       let ew : within ≡ under = cc in
@@ -74,7 +74,7 @@ module _ (given : Given) (asts : AstKey → Option Ast) (loaded : List Text) (bu
   placed p q c same shows = subst (λ (x : Module × Forest). Shows given asts loaded built x.0 x.1 c) same shows
 
   -- by cases, whatever is said
-  agree_cases : (R : WalkEnd → End → Type 0) → ((n : Module) (below : Forest) (c : Justfile) → Shows given asts loaded built n below c → R (trees.In n below) (walks.Inside c))
+  agree_cases : (R : WalkEnd → End → Type 0) → ((n : Module) (below : Forest) (c : Justfile) → Shows given asts loaded built n below c → R (trees.InModule n below) (walks.Inside c))
       → ((names : List Text) → R (trees.Missing names) (walks.Absent names)) → R trees.Nowhere walks.Nowhere → {p : WalkEnd} {e : End} → Agree given asts loaded built p e → R p e
   agree_cases R in_both absent nowhere (both_inside {n} {below} {c} shows) = in_both n below c shows
   agree_cases R in_both absent nowhere (both_absent {names}) = absent names
@@ -87,7 +87,7 @@ module _ (given : Given) (asts : AstKey → Option Ast) (loaded : List Text) (bu
 
   -- a walk that ends in a justfile ends in its module, and the other way
   abbrev ModuleOf : WalkEnd → End → Type 0
-  ModuleOf p e = (c : Justfile) → e ≡ walks.Inside c → (n : Module) × (within : Forest) × (p ≡ trees.In n within) × Shows given asts loaded built n within c
+  ModuleOf p e = (c : Justfile) → e ≡ walks.Inside c → (n : Module) × (within : Forest) × (p ≡ trees.InModule n within) × Shows given asts loaded built n within c
 
   one_end : (k c : Justfile) → walks.Inside k ≡ walks.Inside c → k ≡ c
   one_end k c e = cc
@@ -101,7 +101,7 @@ module _ (given : Given) (asts : AstKey → Option Ast) (loaded : List Text) (bu
   module_of : {p : WalkEnd} {e : End} → Agree given asts loaded built p e → ModuleOf p e
   module_of = agree_cases ModuleOf (λ n below k shows c e. (n, below, refl, moved n below k c (one_end k c e) shows)) (λ names c e. absurd (absent_inside names c e)) (λ c e. absurd (nowhere_inside c e))
 
-  justfile_of : {p : WalkEnd} {e : End} → Agree given asts loaded built p e → (n : Module) (within : Forest) → p ≡ trees.In n within → (c : Justfile) × (e ≡ walks.Inside c)
+  justfile_of : {p : WalkEnd} {e : End} → Agree given asts loaded built p e → (n : Module) (within : Forest) → p ≡ trees.InModule n within → (c : Justfile) × (e ≡ walks.Inside c)
   justfile_of (both_inside {c} shows) n within e = (c, refl)
   justfile_of both_absent n within e = cc
   justfile_of both_nowhere n within e = cc
@@ -121,7 +121,7 @@ module _ (given : Given) (asts : AstKey → Option Ast) (loaded : List Text) (bu
       n : Module
       within : Forest
       c : Justfile
-      leads : follow (texts_of_path alias.target) m inside ≡ trees.In n within
+      leads : follow (texts_of_path alias.target) m inside ≡ trees.InModule n within
       showing : Shows given asts loaded built n within c
       stands : StandsIn j c
       path : target ≡ (out-Justfile c).module_path
@@ -150,7 +150,7 @@ module _ (given : Given) (asts : AstKey → Option Ast) (loaded : List Text) (bu
               })
         ]
 
-    module _ (once : OnceNamed (contents_of m).aliases) (alias : Alias Namepath) (there : In alias (contents_of m).aliases) (n : Module) (within : Forest) (leads : follow (texts_of_path alias.target) m inside ≡ trees.In n within) where
+    module _ (once : OnceNamed (contents_of m).aliases) (alias : Alias Namepath) (there : In alias (contents_of m).aliases) (n : Module) (within : Forest) (leads : follow (texts_of_path alias.target) m inside ≡ trees.InModule n within) where
       not_lost : find (text_of_name alias.name) (out-Justfile j).aliases.modules ≡ None → ⊥
       not_lost f =
           let t = targets_of j in
@@ -166,7 +166,7 @@ module _ (given : Given) (asts : AstKey → Option Ast) (loaded : List Text) (bu
       alias_on made f =
           let a = alias_back (text_of_name alias.name) made f in
           let same : a.alias ≡ alias = once a.alias alias a.there there a.named in
-          let e : trees.In a.n a.within ≡ trees.In n within = sym a.leads ∙ ap (λ (x : Alias Namepath). follow (texts_of_path x.target) m inside) same ∙ leads in
+          let e : trees.InModule a.n a.within ≡ trees.InModule n within = sym a.leads ∙ ap (λ (x : Alias Namepath). follow (texts_of_path x.target) m inside) same ∙ leads in
           (a.c, a.path, placed (a.n, a.within) (n, within) a.c (one_place a.n n a.within within e) a.showing, a.stands)
 
   module _ (recipes : List (Recipe Dependency)) (root : Justfile) (closed : AreClosed recipes root) (rooted : (out-Justfile root).module_path.components ≡ []) where
@@ -195,7 +195,7 @@ module _ (given : Given) (asts : AstKey → Option Ast) (loaded : List Text) (bu
           let o = once_inner name inside n within at.inner_once e in
           record { shows = shows; once = o.0; inner_once = o.1; stands = stands_through at.stands (standing.inside (named_there name (out-Justfile j).modules c f) standing.itself) }
 
-      alias_at : (alias : Alias Namepath) (n : Module) (within : Forest) (c : Justfile) → follow (texts_of_path alias.target) m inside ≡ trees.In n within → Shows given asts loaded built n within c → StandsIn j c → At n within c
+      alias_at : (alias : Alias Namepath) (n : Module) (within : Forest) (c : Justfile) → follow (texts_of_path alias.target) m inside ≡ trees.InModule n within → Shows given asts loaded built n within c → StandsIn j c → At n within c
       alias_at alias n within c e shows stands =
           let o = once_followed (texts_of_path alias.target) m inside n within at.once at.inner_once e in
           record { shows = shows; once = o.0; inner_once = o.1; stands = stands_through at.stands stands }
@@ -250,7 +250,7 @@ module _ (given : Given) (asts : AstKey → Option Ast) (loaded : List Text) (bu
       none_inner (both shows) e = cc
       none_inner neither e = refl
 
-      alias_step : (alias : Alias Namepath) (n : Module) (within : Forest) → find_inner name inside ≡ None → In alias (contents_of m).aliases → text_of_name alias.name ≡ name → follow (texts_of_path alias.target) m inside ≡ trees.In n within
+      alias_step : (alias : Alias Namepath) (n : Module) (within : Forest) → find_inner name inside ≡ None → In alias (contents_of m).aliases → text_of_name alias.name ≡ name → follow (texts_of_path alias.target) m inside ≡ trees.InModule n within
           → (o : Option (Alias Modulepath)) → find name (out-Justfile j).aliases.modules ≡ o → Stepped n within
       alias_step alias n within none there named leads None f =
           absurd (not_lost m inside j at.shows at.once alias there n within leads (ap (λ t. find t (out-Justfile j).aliases.modules) named ∙ f))

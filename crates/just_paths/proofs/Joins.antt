@@ -7,7 +7,7 @@ use Rattle.std.proofs.lemmas.List.Elements.{All-nil, All-cons}
 use Rattle.std.proofs.lemmas.List.Splits.{slice_split_at, slice_split_none, length-slice_split}
 use Rattle.std.proofs.lemmas.List.Sums.{fold-append}
 use Rattle.just_paths.specs.Clean.{IsClean, is_slash, is_component}
-use Rattle.just_paths.specs.Join.{step, led, is_rooted, whole, path_of}
+use Rattle.just_paths.specs.Join.{step, led, is_rooted, whole, path_of_components}
 use Rattle.just_paths.specs.loops.Join.{start_of}
 use Rattle.just_names.specs.Texts.{Text, joined, texts}
 
@@ -90,11 +90,11 @@ parts_of_joined c (d ∷ ds) h =
     ap (list_all is_component) (slice_split_at is_slash c 47 (joined (47 ∷ []) (d ∷ ds)) h.0.1 refl)
     ∙ and_both (is_component c) _ h.0.0 (parts_of_joined d ds h.1)
 
-clean_or_root : (cs : List Text) → AllByRecursion IsPart cs → (path_of cs ≡ 47 ∷ []) ⊎ IsClean (path_of cs)
+clean_or_root : (cs : List Text) → AllByRecursion IsPart cs → (path_of_components cs ≡ 47 ∷ []) ⊎ IsClean (path_of_components cs)
 clean_or_root [] h = inl refl
 clean_or_root (c ∷ cs) h = inr (record { rest = joined (47 ∷ []) (c ∷ cs); rooted = refl; components = parts_of_joined c cs h })
 
-pub clean_led : (text : Text) → (path_of (led [] text) ≡ 47 ∷ []) ⊎ IsClean (path_of (led [] text))
+pub clean_led : (text : Text) → (path_of_components (led [] text) ≡ 47 ∷ []) ⊎ IsClean (path_of_components (led [] text))
 clean_led text = clean_or_root (led [] text) (parts_led [] (slice_split is_slash text) tt (parts_free text))
 
 -- ---- texts that are borrowed

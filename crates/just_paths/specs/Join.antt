@@ -22,9 +22,9 @@ abbrev pub whole : Text → Text → Text
 whole folder text = if is_rooted text then text else folder ++ 47 ∷ text
 
 -- the path of components
-abbrev pub path_of : List Text → Text
-path_of components = 47 ∷ joined (47 ∷ []) components
+abbrev pub path_of_components : List Text → Text
+path_of_components components = 47 ∷ joined (47 ∷ []) components
 
 -- the path to which a text leads from a folder
 abbrev pub clean_join : Text → Text → Text
-clean_join folder text = path_of (led [] (whole folder text))
+clean_join folder text = path_of_components (led [] (whole folder text))

@@ -20,7 +20,7 @@ use Rattle.regex.specs.Strings.{IsReadFromSource, regex_config, regex_pattern, r
 use Rattle.regex.specs.declared.string.regex.Regex.{Regex}
 use Rattle.regex.specs.declared.error.Error as regex
 use Rattle.regex.specs.declared.error.Error.TheVariants as regex_error
-use Rattle.just_patterns.specs.Pattern.{IsReadable, IsRefused, Searches, is_found, reading, too_deep, unread, whole}
+use Rattle.just_patterns.specs.Pattern.{IsReadable, IsRefused, Searches, is_found, reading, too_deep, unread, anchored}
 use Rattle.just_patterns.specs.loops.Pattern.{IsRefusal}
 
 -- what the crate says of a reading, at one that is there or not
@@ -36,7 +36,7 @@ readable_as : (o : Option (Nested Re × Names)) (a : Re) (names : Names) → Rea
 readable_as None a names h = absurd h
 readable_as (Some (re, found)) a names h = h.0
 
-module _ (pattern source : List ℕ) (is : source ≡ whole pattern) where
+module _ (pattern source : List ℕ) (is : source ≡ anchored pattern) where
   reads : (hir : Hir) (names : Names) → Reads default_config source hir names → ReadsAs (reading pattern) (meaning hir) names
   unfolding Reads
   reads hir names h = subst (λ s. ReadsAs (read default_config (chars s)) (meaning hir) names) is h

@@ -13,12 +13,12 @@ use Rattle.just_errors.specs.declared.error.Error.{Error}
 use Rattle.just_errors.specs.declared.error.Error.TheVariants as error
 
 -- the regular expression that is searched for a pattern: it is in brackets, between the start and the end of a text
-abbrev pub whole : List ℕ → List ℕ
-whole pattern = codes "^(?:" ++ (pattern ++ codes ")$")
+abbrev pub anchored : List ℕ → List ℕ
+anchored pattern = codes "^(?:" ++ (pattern ++ codes ")$")
 
 -- what the grammar of regular expressions reads there: what stands for it, with its nesting, and the names of its groups
 abbrev pub reading : List ℕ → Option (Nested Re × Names)
-reading pattern = read default_config (chars (whole pattern))
+reading pattern = read default_config (chars (anchored pattern))
 
 -- what was read is found in a text
 abbrev pub is_found : List ℕ → Option (Nested Re × Names) → Bool

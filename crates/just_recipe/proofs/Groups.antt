@@ -7,7 +7,7 @@ use Rattle.std.proofs.Math.ListN.{drop_of_length-le}
 use Rattle.std.proofs.lemmas.List.{length-drop, nil_from_length, take-append-drop}
 use Rattle.just_ast_definitions.specs.declared.parameter.Parameter.{Parameter}
 use Rattle.just_ast_definitions.specs.Parameter.{is_variadic, most_arguments}
-use Rattle.just_recipe.specs.Grouping.{grouped, joined, one_of, share, takes_all}
+use Rattle.just_recipe.specs.Grouping.{grouped, concatenated, one_of, share, takes_all}
 
 -- one argument less
 one_less : (n m : ℕ) → n ≤ suc m → n - one_of n ≤ m
@@ -44,7 +44,7 @@ module _ {A : Type 0} where
   ]
 
   -- where there are no more arguments than the parameters take, the groups are the arguments
-  pub whole_grouped : (lists : Bool) (ps : List Parameter) (left : List A) → length left ≤ most_arguments lists ps → joined (grouped lists ps left) ≡ left
+  pub whole_grouped : (lists : Bool) (ps : List Parameter) (left : List A) → length left ≤ most_arguments lists ps → concatenated (grouped lists ps left) ≡ left
   whole_grouped true [] left h = sym (nil_from_length left (omega (arith, h)))
   whole_grouped false [] left h = sym (nil_from_length left (omega (arith, h)))
   whole_grouped lists (p ∷ ps) left h =

@@ -12,7 +12,7 @@ use Rattle.std.proofs.lemmas.List.Folds.{list_any-append}
 use Rattle.just_names.specs.Token.{lexeme}
 use Rattle.just_ast_definitions.specs.DefinitionTexts.{text_if, body_line_text}
 use Rattle.just_ast_definitions.specs.declared.parameter.Parameter.{Parameter}
-use Rattle.just_recipe.specs.Grouping.{joined}
+use Rattle.just_recipe.specs.Grouping.{concatenated}
 use Rattle.just_recipe.specs.RecipeTexts.{all_texts, blanked, dependencies_text, dependency_argument_text, dependency_text, each_after, recipe_text, subsequents_text}
 use Rattle.just_recipe.specs.Starred.{has_star}
 use Rattle.just_recipe.specs.declared.dependency.DependencyArgument.{DependencyArgument}
@@ -23,11 +23,11 @@ some_count : (n : ℕ) → (suc n == 0) ≡ false
 some_count n = grind (arith, nat_tests)
 
 -- groups, one after another
-pub joined_more : {A : Type 0} (groups : List (List A)) (group : List A) → joined (groups ++ group ∷ []) ≡ joined groups ++ group
+pub joined_more : {A : Type 0} (groups : List (List A)) (group : List A) → concatenated (groups ++ group ∷ []) ≡ concatenated groups ++ group
 joined_more [] group = append-nil group
-joined_more (g ∷ gs) group = ap (λ t. g ++ t) (joined_more gs group) ∙ sym (append_assoc g (joined gs) group)
+joined_more (g ∷ gs) group = ap (λ t. g ++ t) (joined_more gs group) ∙ sym (append_assoc g (concatenated gs) group)
 
-pub none_joined : {A : Type 0} (groups : List (List A)) → list_all (λ g. length g == 0) groups ≡ true → joined groups ≡ []
+pub none_joined : {A : Type 0} (groups : List (List A)) → list_all (λ g. length g == 0) groups ≡ true → concatenated groups ≡ []
 none_joined [] h = refl
 none_joined ([] ∷ gs) h = none_joined gs h
 none_joined ((a ∷ others) ∷ gs) h =
@@ -38,7 +38,7 @@ none_joined ((a ∷ others) ∷ gs) h =
 abbrev pub in_parentheses : List ℕ → List DependencyArgument → List ℕ
 in_parentheses path arguments = text_if (has_star arguments) (codes "*") ++ (codes "(" ++ (path ++ (blanked (map dependency_argument_text arguments) ++ codes ")")))
 
-pub some_joined : (path : List ℕ) (groups : List (List DependencyArgument)) → list_all (λ g. length g == 0) groups ≡ false → dependency_text path (joined groups) ≡ in_parentheses path (joined groups)
+pub some_joined : (path : List ℕ) (groups : List (List DependencyArgument)) → list_all (λ g. length g == 0) groups ≡ false → dependency_text path (concatenated groups) ≡ in_parentheses path (concatenated groups)
 some_joined path [] h = absurd (cc)
 some_joined path ([] ∷ gs) h = some_joined path gs h
 some_joined path ((a ∷ others) ∷ gs) h = refl
@@ -51,16 +51,16 @@ pub some_arguments : (path : List ℕ) (arguments : List DependencyArgument) →
 some_arguments path [] h = absurd (cc)
 some_arguments path (a ∷ others) h = refl
 
-pub star_joined : (groups : List (List DependencyArgument)) → list_any has_star groups ≡ has_star (joined groups)
+pub star_joined : (groups : List (List DependencyArgument)) → list_any has_star groups ≡ has_star (concatenated groups)
 star_joined [] = refl
-star_joined (g ∷ gs) = ap (λ b. has_star g || b) (star_joined gs) ∙ sym (list_any-append (λ (a : DependencyArgument). a.starred) g (joined gs))
+star_joined (g ∷ gs) = ap (λ b. has_star g || b) (star_joined gs) ∙ sym (list_any-append (λ (a : DependencyArgument). a.starred) g (concatenated gs))
 
 pub blanked_more : (groups : List (List DependencyArgument)) (group : List DependencyArgument)
-    → blanked (map dependency_argument_text (joined groups)) ++ blanked (map dependency_argument_text group) ≡ blanked (map dependency_argument_text (joined (groups ++ group ∷ [])))
+    → blanked (map dependency_argument_text (concatenated groups)) ++ blanked (map dependency_argument_text group) ≡ blanked (map dependency_argument_text (concatenated (groups ++ group ∷ [])))
 blanked_more groups group =
     sym (ap (λ xs. blanked (map dependency_argument_text xs)) (joined_more groups group)
-    ∙ ap blanked (map-append dependency_argument_text (joined groups) group)
-    ∙ flat_map-append (λ text. codes " " ++ text) (map dependency_argument_text (joined groups)) (map dependency_argument_text group))
+    ∙ ap blanked (map-append dependency_argument_text (concatenated groups) group)
+    ∙ flat_map-append (λ text. codes " " ++ text) (map dependency_argument_text (concatenated groups)) (map dependency_argument_text group))
 
 module _ {W : Type 0} (took : W → List ℕ → W → Type 0) where
   -- items whose texts are known

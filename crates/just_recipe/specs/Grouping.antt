@@ -22,6 +22,6 @@ module _ {A : Type 0} where
   grouped lists (p ∷ ps) left = take (share lists p (length left)) left ∷ grouped lists ps (drop (share lists p (length left)) left)
 
   -- groups, one after another
-  abbrev pub joined : List (List A) → List A
-  joined [] = []
-  joined (group ∷ groups) = group ++ joined groups
+  abbrev pub concatenated : List (List A) → List A
+  concatenated [] = []
+  concatenated (group ∷ groups) = group ++ concatenated groups

@@ -2,7 +2,7 @@
 ghost use Rattle.std.specs.Prelude.{◌≡◌, ◌==◌, List, length, map};
 ghost use Rattle.std.specs.Fmt.{WritesOnOk};
 ghost use Rattle.std.specs.List.{list_all, list_any};
-ghost use Rattle.just_recipe.specs.Grouping.{joined};
+ghost use Rattle.just_recipe.specs.Grouping.{concatenated};
 ghost use Rattle.just_recipe.specs.RecipeTexts.{blanked, dependency_argument_text};
 ghost use Rattle.just_recipe.specs.Starred.{has_star};
 ghost use Rattle.just_recipe.specs.declared.dependency.DependencyArgument.{DependencyArgument};
@@ -98,7 +98,7 @@ fn write_groups<'src, W: fmt::Write>(
     f: &mut fmt::Formatter<W>,
     groups: &[Sequence<DependencyArgument<'src>>],
 ) -> fmt::Result
-    ensures { WritesOnOk W.write_str_gives f.old result (blanked (map dependency_argument_text (joined groups.now))) f.new }
+    ensures { WritesOnOk W.write_str_gives f.old result (blanked (map dependency_argument_text (concatenated groups.now))) f.new }
 {
     for group in groups {
         write_each(f, " ", group.as_slice())?;
@@ -111,10 +111,10 @@ impl<'src> fmt::Display for Dependency<'src> {
     ghost use Rattle.std.specs.Prelude.{Some, false};
     ghost use Rattle.just_names.specs.Name.{texts_of_path};
     ghost use Rattle.just_names.specs.Texts.{text_of};
-    ghost use Rattle.just_recipe.specs.Grouping.{joined};
+    ghost use Rattle.just_recipe.specs.Grouping.{concatenated};
     ghost use Rattle.just_recipe.specs.RecipeTexts.{dependency_text};
 
-    ghost output = { λ dependency. Some (dependency_text (text_of (texts_of_path dependency.path) false) (joined dependency.arguments)) };
+    ghost output = { λ dependency. Some (dependency_text (text_of (texts_of_path dependency.path) false) (concatenated dependency.arguments)) };
 
     fn fmt<W: fmt::Write>(&self, f: &mut fmt::Formatter<W>) -> fmt::Result {
         let groups = self.arguments.as_slice();

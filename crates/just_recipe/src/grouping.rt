@@ -1,7 +1,7 @@
 //! How the arguments of a dependency are grouped.
 ghost use Rattle.std.specs.Prelude.{◌≡◌, ◌≤◌, length, IfOk};
 ghost use Rattle.just_ast_definitions.specs.Parameter.{most_arguments};
-ghost use Rattle.just_recipe.specs.Grouping.{grouped, joined, share};
+ghost use Rattle.just_recipe.specs.Grouping.{grouped, concatenated, share};
 
 use crate::dependency::DependencyArgument;
 use crate::recipe::Recipe;
@@ -46,7 +46,7 @@ impl<'src, D> Recipe<'src, D> {
         ensures grouped { IfOk result (λ groups. groups ≡ grouped settings.now.lists self.now.parameters arguments.now) }
         ensures count { IfOk result (λ groups. length groups ≡ length self.now.parameters) }
         ensures whole { IfOk result (λ groups.
-            length arguments.now ≤ most_arguments settings.now.lists self.now.parameters → joined groups ≡ arguments.now) }
+            length arguments.now ≤ most_arguments settings.now.lists self.now.parameters → concatenated groups ≡ arguments.now) }
     {
         let mut groups = Vec::with_capacity(alloc, self.parameters.len())?;
         let mut taken = 0;

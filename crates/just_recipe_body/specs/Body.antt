@@ -20,7 +20,7 @@ use Rattle.just_run_layers.specs.declared.environment.EnvironmentPair.{Environme
 use Rattle.just_run_layers.specs.declared.host.Entry.TheVariants.{Show, Timestamp}
 use Rattle.just_run_layers.specs.Evaluation.{ContextContents, Environment, LineOf, StringOf, Surroundings}
 use Rattle.just_run_layers.specs.Evaluation as evaluation
-use Rattle.just_run_layers.specs.Host.{Answer, Changed, Given, Refused}
+use Rattle.just_run_layers.specs.Host.{Answer, Changed, TextGiven, Refused}
 use Rattle.just_run_layers.specs.Interactions.{Ask, Fail, Return, Interaction, ToEvaluator, ToHost, and_then}
 use Rattle.just_recipe_body.specs.Attributes.{changes_directory, directory_of, timestamp_of}
 use Rattle.just_recipe_body.specs.declared.body.Body.{Body}
@@ -64,7 +64,7 @@ abbrev pub untimed : Text → RunError
 untimed message = run.DatetimeFormat (record { message = message })
 
 abbrev pub text_or : (Text → RunError) → Answer → Interaction Text
-text_or fault (Given text) = Return text
+text_or fault (TextGiven text) = Return text
 text_or fault (Refused message) = Fail (Failed (fault message))
 text_or fault _ = Fail Memory
 

@@ -9,7 +9,7 @@ use Rattle.just_errors.specs.declared.run_error.RunError.{RunError}
 use Rattle.just_errors.specs.declared.run_error.RunError.TheVariants as run
 use Rattle.just_names.specs.Texts.{Text}
 use Rattle.just_run_layers.specs.declared.host.Entry.TheVariants.{Confirm}
-use Rattle.just_run_layers.specs.Host.{Answer, Given, Refused}
+use Rattle.just_run_layers.specs.Host.{Answer, TextGiven, Refused}
 use Rattle.just_run_layers.specs.Interactions.{Ask, Fail, Return, Interaction, ToHost, and_then}
 use Rattle.just_recipe_body.specs.Attributes.{first_said}
 use Rattle.just_recipe_body.specs.Body.{BodyContents, body_name, string_steps}
@@ -27,7 +27,7 @@ abbrev pub unconfirmed : Text → RunError
 unconfirmed message = run.GetConfirmation (record { message = message })
 
 abbrev pub line_answered : Answer → Interaction Bool
-line_answered (Given line) = Return (is_yes line)
+line_answered (TextGiven line) = Return (is_yes line)
 line_answered (Refused message) = Fail (Failed (unconfirmed message))
 line_answered _ = Fail Memory
 

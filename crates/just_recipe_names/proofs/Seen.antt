@@ -8,7 +8,7 @@ use Rattle.just_names.specs.Texts.{Text}
 use Rattle.just_names.specs.declared.number.Number.{Number}
 use Rattle.just_ast_definitions.specs.declared.parameter.Parameter.{Parameter}
 use Rattle.just_ast_references.specs.Numbers.{with_numbers}
-use Rattle.just_recipe_names.specs.Numbered.{number_under, numbered_parameters, parameter_by, parameter_number, under}
+use Rattle.just_recipe_names.specs.Numbered.{number_under, numbered_parameters, parameter_by, parameter_number, under_parameters}
 
 or_chosen : (b : Bool) (n : Number) (o p : Option Number) → option_or (if b then Some n else o) p ≡ (if b then Some n else option_or o p)
 or_chosen true n o p = refl
@@ -36,7 +36,7 @@ module _ (ps : List Parameter) (i : ℕ) (p : Parameter) (inside : i < length ps
       ∙ ap (λ qs. parameter_number qs name) (sym taken_more)
 
   pub numbered_more : (number : List Parameter → Text → Option Number) (all old new : List Parameter) (q : Parameter)
-      → all ≡ old ++ numbered_parameters number (take i ps) (drop i ps) → q ≡ parameter_by (under number (take i ps)) p → new ≡ old ++ q ∷ []
+      → all ≡ old ++ numbered_parameters number (take i ps) (drop i ps) → q ≡ parameter_by (under_parameters number (take i ps)) p → new ≡ old ++ q ∷ []
       → all ≡ new ++ numbered_parameters number (take (i + 1) ps) (drop (i + 1) ps)
   numbered_more number all old new q so made more =
       so

@@ -90,27 +90,27 @@ attribute_with outer inner named = record named { attribute = attribute_by outer
 
 -- expressions whose names have the numbers of what they mean under parameters
 module _ (number : List Parameter → Text → Option Number) where
-  abbrev pub under : List Parameter → Expression → Expression
-  under parameters = with_numbers (number parameters)
+  abbrev pub under_parameters : List Parameter → Expression → Expression
+  under_parameters parameters = with_numbers (number parameters)
 
   -- each parameter under those before it
   abbrev pub numbered_parameters : List Parameter → List Parameter → List Parameter
   numbered_parameters before [] = []
-  numbered_parameters before (p ∷ ps) = parameter_by (under before) p ∷ numbered_parameters (before ++ p ∷ []) ps
+  numbered_parameters before (p ∷ ps) = parameter_by (under_parameters before) p ∷ numbered_parameters (before ++ p ∷ []) ps
 
   -- all lines of a script, and those of a shell body that are read
   abbrev pub numbered_body : {D : Type 0} → SyntaxAnswers → Settings → Recipe D → List Line
   numbered_body answers settings r =
-      if is_script r settings then map (line_by (under r.parameters)) r.body else shell_lines_by (under r.parameters) answers settings true r.body
+      if is_script r settings then map (line_by (under_parameters r.parameters)) r.body else shell_lines_by (under_parameters r.parameters) answers settings true r.body
 
 -- The recipe as it is, but that the names in whatever it reads have the numbers of what they mean there. The comments that are skipped are not read, and stay as they are.
 abbrev pub numbered_recipe : (Text → Option Number) → SyntaxAnswers → Settings → Recipe UnresolvedDependency → Recipe UnresolvedDependency
 numbered_recipe variable answers settings r =
     let number = number_under variable answers in
     record r {
-      attributes = map (attribute_with (under number []) (under number r.parameters)) r.attributes;
+      attributes = map (attribute_with (under_parameters number []) (under_parameters number r.parameters)) r.attributes;
       body = numbered_body number answers settings r;
-      dependencies = map (dependency_by (under number r.parameters)) r.dependencies;
+      dependencies = map (dependency_by (under_parameters number r.parameters)) r.dependencies;
       parameters = numbered_parameters number [] r.parameters;
     }
 

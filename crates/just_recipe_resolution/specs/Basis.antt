@@ -18,7 +18,7 @@ use Rattle.just_module_variables.specs.Resolver.{overridden}
 use Rattle.just_module_variables.specs.declared.variable_resolver.VariableResolver.{VariableResolver}
 use Rattle.just_names.specs.Texts.{Text}
 use Rattle.just_names.specs.declared.number.Number.{Number}
-use Rattle.just_parts.specs.Evaluator.{Covers, Evaluator, Values, functions_by_name, values_of}
+use Rattle.just_parts.specs.Evaluator.{Covers, Evaluator, Values, functions_by_name, scope_values}
 use Rattle.just_parts.specs.Known.{known, sources}
 use Rattle.just_parts.specs.Needs.{has_number}
 use Rattle.just_parts.specs.Syntax.{SyntaxAnswers}
@@ -44,7 +44,7 @@ basis_of by = record {
   numbers = get bytes_eq by.meanings.bindings.now;
   assignments = by.among.assignments.now;
   functions = by.among.functions.now;
-  constants = values_of by.among.constants.now;
+  constants = scope_values by.among.constants.now;
   overridden = has_number by.overrides.now;
   settings = by.meanings.settings.now;
 }
@@ -55,7 +55,7 @@ basis_by resolver constants settings = record {
   numbers = get bytes_eq resolver.bindings;
   assignments = resolver.known.assignments.now;
   functions = resolver.known.functions.now;
-  constants = values_of constants;
+  constants = scope_values constants;
   overridden = overridden resolver;
   settings = settings;
 }

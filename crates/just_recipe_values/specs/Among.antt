@@ -7,7 +7,7 @@ use Rattle.just_ast_references.specs.Numbers.{bare}
 use Rattle.just_errors.specs.Causes.{Cause}
 use Rattle.just_module_contents.specs.Constants.{recipe_expressions}
 use Rattle.just_module_contents.specs.RecipeValues.{IsPastLimits, Unvalued}
-use Rattle.just_parts.specs.Evaluator.{Covers, Evaluator, functions_by_name, values_of}
+use Rattle.just_parts.specs.Evaluator.{Covers, Evaluator, functions_by_name, scope_values}
 use Rattle.just_parts.specs.Known.{sources}
 use Rattle.just_recipe.specs.declared.dependency.UnresolvedDependency.{UnresolvedDependency}
 use Rattle.just_recipe.specs.declared.recipe.Recipe.{Recipe}
@@ -16,11 +16,11 @@ use Rattle.std.specs.Prelude.{◌⊎◌}
 
 -- the value of an expression
 abbrev pub value_of : {E : Type 0} → Evaluator → Among E → Expression → Option (List Text)
-value_of evaluator it e = evaluator.value (functions_by_name it.functions.now) (values_of it.constants.now) (bare e)
+value_of evaluator it e = evaluator.value (functions_by_name it.functions.now) (scope_values it.constants.now) (bare e)
 
 -- whatever the docs, helps and patterns of a recipe read has a value
 abbrev pub CoversRecipe : {E : Type 0} → Among E → Recipe UnresolvedDependency → Type 0
-CoversRecipe it r = (e : Expression) → Contains (recipe_expressions r) e → Covers (sources it.assignments.now it.functions.now) (values_of it.constants.now) e
+CoversRecipe it r = (e : Expression) → Contains (recipe_expressions r) e → Covers (sources it.assignments.now it.functions.now) (scope_values it.constants.now) e
 
 -- what an error may tell of them: one has no value, or a pattern is refused
 abbrev pub TellsOf : (Expression → Option (List Text)) → Recipe UnresolvedDependency → Cause → Type 0

@@ -18,7 +18,7 @@ use Rattle.just_ast_definitions.specs.declared.parameter.Parameter.{Parameter}
 use Rattle.just_table.specs.Entries.{find}
 use Rattle.just_run_layers.specs.declared.context.Context.{Context}
 use Rattle.just_run_layers.specs.Evaluation.{NumberSet, in_set}
-use Rattle.just_parts.specs.Evaluator.{Wanted, values_of, wanted_by}
+use Rattle.just_parts.specs.Evaluator.{Wanted, scope_values, wanted_by}
 use Rattle.just_parts.specs.Known.{Known, none_hidden, sources}
 use Rattle.just_parts.specs.Needs.{IsClosed, has_number, same_number}
 use Rattle.just_parts.specs.Reading.{IsEvaluationOrder, Reads}
@@ -38,7 +38,7 @@ BindsRead m hidden scope e = (name : Text) (a : Assignment) → Reads m hidden e
 -- An expression may be evaluated in a scope: names are hidden that the scope binds too, and each variable that is read is bound.
 pub record IsCovered (m : Known) (scope : Scope) (e : Expression) : Type 0 where
   pub hidden : Text → Bool
-  pub bound : (name : Text) → hidden name ≡ true → IsSome (values_of scope name)
+  pub bound : (name : Text) → hidden name ≡ true → IsSome (scope_values scope name)
   pub covers : BindsRead m hidden scope e
 
 -- the expressions of a line
@@ -77,5 +77,5 @@ wanted_in context set = wanted_by context.assignments.now context.functions.now 
 -- A scope binds what another binds, and parameters, which hide it.
 pub record BindsParameters (parameters : List Parameter) (old new : Scope) : Type 0 where
   pub exactly : (number : Number) → binds new number ≡ (list_any (λ (p : Parameter). same_number p.number number) parameters || binds old number)
-  pub named : (name : Text) → has_parameter parameters name ≡ true → IsSome (values_of new name)
-  pub others : (name : Text) → has_parameter parameters name ≡ false → values_of new name ≡ values_of old name
+  pub named : (name : Text) → has_parameter parameters name ≡ true → IsSome (scope_values new name)
+  pub others : (name : Text) → has_parameter parameters name ≡ false → scope_values new name ≡ scope_values old name

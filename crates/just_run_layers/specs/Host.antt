@@ -16,9 +16,9 @@ use Rattle.just_run_layers.specs.declared.run_answer.RunAnswer.{RunAnswer}
 -- of an environment; how a program ended; or a fault with its message.
 pub data Answer : Type 0 where
   Done : Answer
-  Given : Text → Answer
+  TextGiven : Text → Answer
   Valued : List Text → Answer
-  Scoped : Scope → Answer
+  ScopeGiven : Scope → Answer
   Bound : Held → Answer
   Paired : List EnvironmentPair → Answer
   Changed : List EnvironmentChange → Answer
@@ -56,7 +56,7 @@ answered answer (Err (refusal.Fault fault)) = Some (Refused fault.message)
 
 -- the answers as functions
 abbrev pub given : Text → Answer
-given text = Given text
+given text = TextGiven text
 
 abbrev pub paired : List EnvironmentPair → Answer
 paired pairs = Paired pairs
@@ -65,7 +65,7 @@ abbrev pub valued : List Text → Answer
 valued value = Valued value
 
 abbrev pub scoped : Scope → Answer
-scoped scope = Scoped scope
+scoped scope = ScopeGiven scope
 
 abbrev pub bound_to : Held → Answer
 bound_to bound = Bound bound

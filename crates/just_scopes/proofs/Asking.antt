@@ -15,14 +15,14 @@ use Rattle.just_run_layers.specs.Interactions.{Ask, Return, Log, Question, Inter
 use Rattle.just_run_layers.specs.declared.environment.EnvironmentPair.{EnvironmentPair}
 use Rattle.just_run_layers.specs.declared.host.Entry.{Entry}
 use Rattle.just_run_layers.specs.declared.host.Entry.TheVariants as entry
-use Rattle.just_scopes.specs.Opening.{Handed, context_in, dotenv_steps, folder_of, pairs_answered, scope_answered, scope_steps}
+use Rattle.just_scopes.specs.Opening.{Handed, context_in, dotenv_steps, working_folder_of, pairs_answered, scope_answered, scope_steps}
 use Rattle.just_scopes.specs.loops.Opens.{AsksHostAlone}
 
 -- what follows an answer at once
 abbrev pub AtOnce : {A : Type 0} → Interaction A → Result A Halt → Type 0
 AtOnce s r = (p : Question → Option Answer) (k : Log) → HasTrace p s k k r
 
-module _ (h : Entry → Option Answer) (config : ConfigContents) (j : Justfile) (before : List EnvironmentPair) (es later : List Entry) (folder : Text) (same : folder ≡ folder_of config.working_directory j) where
+module _ (h : Entry → Option Answer) (config : ConfigContents) (j : Justfile) (before : List EnvironmentPair) (es later : List Entry) (folder : Text) (same : folder ≡ working_folder_of config.working_directory j) where
   abbrev pub call : Entry
   call = entry.Dotenv (out-Justfile j).module_path folder
 
@@ -30,7 +30,7 @@ module _ (h : Entry → Option Answer) (config : ConfigContents) (j : Justfile) 
   asked f = Ask (ToHost (entry.Dotenv (out-Justfile j).module_path f)) (pairs_answered before)
 
   asked-is : config.load_dotenv ≡ true → asked folder ≡ dotenv_steps config j before
-  asked-is on = ap asked same ∙ sym (ap (λ b. cond b (asked (folder_of config.working_directory j)) (Return [])) on)
+  asked-is on = ap asked same ∙ sym (ap (λ b. cond b (asked (working_folder_of config.working_directory j)) (Return [])) on)
 
   pub dotenv-answered : config.load_dotenv ≡ true → (a : Answer) (o : Option Answer) → o ≡ Some a → Answers (h call) o → later ≡ es ++ kept call o → (r : Result (List EnvironmentPair) Halt) → AtOnce (pairs_answered before a) r →
       AsksHostAlone h (dotenv_steps config j before) es later r
@@ -46,7 +46,7 @@ module _ (h : Entry → Option Answer) (config : ConfigContents) (j : Justfile) 
 module _ (h : Entry → Option Answer) (config : ConfigContents) (j : Justfile) (before : List EnvironmentPair) (es : List Entry) where
   pub dotenv-off : config.load_dotenv ≡ false → (all : List EnvironmentPair) → all ≡ [] → AsksHostAlone h (dotenv_steps config j before) es es (Ok all)
   dotenv-off off all none = λ e rs.
-      subst (λ s. HasTrace (both e h) s (log_of es rs) (log_of es rs) (Ok all)) (sym (ap (λ b. cond b (Ask (ToHost (entry.Dotenv (out-Justfile j).module_path (folder_of config.working_directory j))) (pairs_answered before)) (Return [])) off))
+      subst (λ s. HasTrace (both e h) s (log_of es rs) (log_of es rs) (Ok all)) (sym (ap (λ b. cond b (Ask (ToHost (entry.Dotenv (out-Justfile j).module_path (working_folder_of config.working_directory j))) (pairs_answered before)) (Return [])) off))
       (refl, inl (ap (λ x. Ok x) none))
 
 module _ (e : Inquiry → Option Answer) (handed : Handed) (j : Justfile) (set : NumberSet) (parent : Scope) (dotenv : List EnvironmentPair) (context : ContextContents) (same : context ≡ context_in handed j dotenv) (before later : List ScopeRequest) where

@@ -22,7 +22,7 @@ use Rattle.just_name_resolution.proofs.Sets.{number_itself, or_left, or_right}
 use Rattle.just_names.specs.Name.{text_of_name}
 use Rattle.just_names.specs.Texts.{Text}
 use Rattle.just_names.specs.declared.number.Number.{Number}
-use Rattle.just_parts.specs.Evaluator.{Binds, value_in, values_of}
+use Rattle.just_parts.specs.Evaluator.{Binds, value_in, scope_values}
 use Rattle.just_parts.specs.Needs.{has_number, same_number, starts}
 use Rattle.just_parts.specs.Reading.{Reads}
 use Rattle.just_parts.specs.Scopes.{Scoped, scopes_of}
@@ -100,7 +100,7 @@ module _ (answers : SyntaxAnswers) (root : Justfile) (recipes : List (Recipe Dep
     stands : (o : Opened) → Contains opened o → StandsIn root o.justfile
     stands = opened-stands false root ps order opened whose
 
-    bound-exactly : (o : Opened) → Contains opened o → (name : Text) → IsSome (values_of o.scope name) ↔ IsToBeBound o.lazy answers recipes tops o.justfile name
+    bound-exactly : (o : Opened) → Contains opened o → (name : Text) → IsSome (scope_values o.scope name) ↔ IsToBeBound o.lazy answers recipes tops o.justfile name
     bound-exactly o c name =
         let b = All-contains (IsOpenedBy used handed) opened o bound c in
         let w = wanted-bound (stands o c) b.is_set name in

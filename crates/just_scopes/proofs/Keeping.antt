@@ -10,7 +10,7 @@ use Rattle.just_errors.specs.declared.run_error.RunError.TheVariants.{Dotenv, Ev
 use Rattle.just_justfile.specs.declared.justfile.Justfile.{Justfile}
 use Rattle.just_run_layers.proofs.InteractionLemmas.{took-split}
 use Rattle.just_run_layers.specs.Evaluation.{ConfigContents}
-use Rattle.just_run_layers.specs.Host.{Answer, Bound, Changed, Done, Given, Paired, Ran, Refused, Scoped, Valued}
+use Rattle.just_run_layers.specs.Host.{Answer, Bound, Changed, Done, TextGiven, Paired, Ran, Refused, ScopeGiven, Valued}
 use Rattle.just_run_layers.specs.Interactions.{Ask, Fail, Return, Log, Question, ToHost, HasTrace, and_then, executed_in, log_of}
 use Rattle.just_run_layers.specs.declared.environment.EnvironmentPair.{EnvironmentPair}
 use Rattle.just_run_layers.specs.declared.host.Entry.{Entry}
@@ -22,9 +22,9 @@ use Rattle.just_scopes.specs.Preorder.{Placed}
 -- no answer leads to a recipe that begins
 quiet-pairs : (before : List EnvironmentPair) (a : Answer) → Quiet (pairs_answered before a)
 quiet-pairs before Done = memory-not
-quiet-pairs before (Given text) = memory-not
+quiet-pairs before (TextGiven text) = memory-not
 quiet-pairs before (Valued value) = memory-not
-quiet-pairs before (Scoped scope) = memory-not
+quiet-pairs before (ScopeGiven scope) = memory-not
 quiet-pairs before (Bound held) = memory-not
 quiet-pairs before (Paired pairs) = tt
 quiet-pairs before (Changed changes) = memory-not
@@ -33,9 +33,9 @@ quiet-pairs before (Refused message) = failed-not (Dotenv (record { message = me
 
 quiet-scope : (a : Answer) → Quiet (scope_answered a)
 quiet-scope Done = memory-not
-quiet-scope (Given text) = memory-not
+quiet-scope (TextGiven text) = memory-not
 quiet-scope (Valued value) = memory-not
-quiet-scope (Scoped scope) = tt
+quiet-scope (ScopeGiven scope) = tt
 quiet-scope (Bound held) = memory-not
 quiet-scope (Paired pairs) = memory-not
 quiet-scope (Changed changes) = memory-not
@@ -77,9 +77,9 @@ given-same p y old new x t = t.0
 
 pairs-kept : (p : Question → Option Answer) (before : List EnvironmentPair) (a : Answer) (old new : Log) (x : List EnvironmentPair) → HasTrace p (pairs_answered before a) old new (Ok x) → new ≡ old
 pairs-kept p before Done old new x t = absurd (failed-no p _ old new x t)
-pairs-kept p before (Given text) old new x t = absurd (failed-no p _ old new x t)
+pairs-kept p before (TextGiven text) old new x t = absurd (failed-no p _ old new x t)
 pairs-kept p before (Valued value) old new x t = absurd (failed-no p _ old new x t)
-pairs-kept p before (Scoped scope) old new x t = absurd (failed-no p _ old new x t)
+pairs-kept p before (ScopeGiven scope) old new x t = absurd (failed-no p _ old new x t)
 pairs-kept p before (Bound held) old new x t = absurd (failed-no p _ old new x t)
 pairs-kept p before (Paired pairs) old new x t = t.0
 pairs-kept p before (Changed changes) old new x t = absurd (failed-no p _ old new x t)
@@ -88,9 +88,9 @@ pairs-kept p before (Refused message) old new x t = absurd (failed-no p _ old ne
 
 scope-kept : (p : Question → Option Answer) (a : Answer) (old new : Log) (x : Scope) → HasTrace p (scope_answered a) old new (Ok x) → new ≡ old
 scope-kept p Done old new x t = absurd (failed-no p _ old new x t)
-scope-kept p (Given text) old new x t = absurd (failed-no p _ old new x t)
+scope-kept p (TextGiven text) old new x t = absurd (failed-no p _ old new x t)
 scope-kept p (Valued value) old new x t = absurd (failed-no p _ old new x t)
-scope-kept p (Scoped scope) old new x t = t.0
+scope-kept p (ScopeGiven scope) old new x t = t.0
 scope-kept p (Bound held) old new x t = absurd (failed-no p _ old new x t)
 scope-kept p (Paired pairs) old new x t = absurd (failed-no p _ old new x t)
 scope-kept p (Changed changes) old new x t = absurd (failed-no p _ old new x t)

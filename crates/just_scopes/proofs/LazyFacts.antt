@@ -12,7 +12,7 @@ use Rattle.just_name_resolution.proofs.Placed.{the_value}
 use Rattle.just_name_resolution.proofs.Sets.{or_left}
 use Rattle.just_names.specs.Texts.{Text}
 use Rattle.just_names.specs.declared.number.Number.{Number}
-use Rattle.just_parts.specs.Evaluator.{values_of}
+use Rattle.just_parts.specs.Evaluator.{scope_values}
 use Rattle.just_parts.specs.Needs.{onward, starts}
 use Rattle.just_parts.specs.Syntax.{SyntaxAnswers}
 use Rattle.just_paths.specs.contracts.modulepath.ModulepathPartialEq.TheImpl as path_eq
@@ -78,7 +78,7 @@ module _ (answers : SyntaxAnswers) (root : Justfile) (recipes : List (Recipe Dep
     each-lazy : (o : Opened) → Contains opened o → o.lazy ≡ true
     each-lazy o c = let f = opened-placed true root ps order opened whose o c in ap (λ (w : Whose). w.1) f.2 ∙ placed-lazy root ps order f.0 f.1
 
-    bound-exactly : (o : Opened) → Contains opened o → (name : Text) → IsSome (values_of o.scope name) ↔ IsNeededFrom used o.justfile name
+    bound-exactly : (o : Opened) → Contains opened o → (name : Text) → IsSome (scope_values o.scope name) ↔ IsNeededFrom used o.justfile name
     bound-exactly o c name =
         let b = All-contains (IsOpenedBy used handed) opened o bound c in
         let s = found-set b.is_set (each-lazy o c) in

@@ -10,7 +10,7 @@ use Rattle.just_justfile.specs.Running.{arguments_of, known_by_tables}
 use Rattle.just_justfile.specs.declared.justfile.Justfile.{Justfile, out-Justfile}
 use Rattle.just_names.specs.Texts.{Text}
 use Rattle.just_names.specs.declared.number.Number.{Number}
-use Rattle.just_parts.specs.Evaluator.{values_of}
+use Rattle.just_parts.specs.Evaluator.{scope_values}
 use Rattle.just_parts.specs.Scopes.{scopes_of}
 use Rattle.just_parts.specs.Syntax.{SyntaxAnswers}
 use Rattle.just_recipe.specs.declared.dependency.Dependency.{Dependency}
@@ -21,7 +21,7 @@ use Rattle.just_run_layers.specs.Interactions.{Log, HasTrace, both, log_of}
 use Rattle.just_run_layers.specs.declared.host.Entry.{Entry}
 use Rattle.just_run_layers.specs.declared.host.Entry.TheVariants as entry
 use Rattle.just_scopes.specs.Need.{AreNeeds, AreNeedsFrom, IsNeededFrom, IsToBeBound, NumberSets, asked}
-use Rattle.just_scopes.specs.Opening.{Handed, Opened, Setup, all_opened, folder_of, opened_at}
+use Rattle.just_scopes.specs.Opening.{Handed, Opened, Setup, all_opened, working_folder_of, opened_at}
 use Rattle.just_scopes.specs.Preorder.{IsPreorder, IsPreorderUnder, Placed}
 
 -- a module and whether it is lazy
@@ -41,7 +41,7 @@ IsServedBy answers r o = All (IsRead (known_by_tables o.justfile) o.scope) (scop
 -- Once they are open: they are the modules of the root, in order, each lazy where it or one above sets so; in a lazy one exactly what is needed is bound, and in another all; each recipe to which tasks lead has its module among them, and whatever it reads is bound there.
 pub record AreOpenModules (answers : SyntaxAnswers) (root : Justfile) (recipes : List (Recipe Dependency)) (tops : List Task) (opened : List Opened) : Type 0 where
   pub modules : (ps : List Placed) → IsPreorder root ps → map whose_opened opened ≡ map whose_placed ps
-  pub exactly : (o : Opened) → Contains opened o → (name : Text) → IsSome (values_of o.scope name) ↔ IsToBeBound o.lazy answers recipes tops o.justfile name
+  pub exactly : (o : Opened) → Contains opened o → (name : Text) → IsSome (scope_values o.scope name) ↔ IsToBeBound o.lazy answers recipes tops o.justfile name
   pub placed : (place : ℕ) (r : Recipe Dependency) → LeadTo recipes tops place → slice_get recipes place ≡ Some r →
       (o : Opened) × Contains opened o × (r.module_path ≡ Some (out-Justfile o.justfile).module_path)
   pub served : (place : ℕ) (r : Recipe Dependency) → LeadTo recipes tops place → slice_get recipes place ≡ Some r →
@@ -61,12 +61,12 @@ OpensLazily evaluator host handed root used old new result =
 pub record AreLazyModules (root : Justfile) (used : Number → Bool) (opened : List Opened) : Type 0 where
   pub modules : (ps : List Placed) → IsPreorderUnder true root ps → map whose_opened opened ≡ map whose_placed ps
   pub lazy : (o : Opened) → Contains opened o → o.lazy ≡ true
-  pub exactly : (o : Opened) → Contains opened o → (name : Text) → IsSome (values_of o.scope name) ↔ IsNeededFrom used o.justfile name
+  pub exactly : (o : Opened) → Contains opened o → (name : Text) → IsSome (scope_values o.scope name) ↔ IsNeededFrom used o.justfile name
   pub found : (j : Justfile) → StandsIn root j → (o : Opened) × (opened_at (out-Justfile j).module_path opened ≡ Some o) × (o.justfile ≡ j)
 
 -- what is kept of open modules: the host was asked for the pairs of each, where files are asked for, and the evaluator for its variables, of a lazy one for what is needed
 abbrev pub dotenv_entry : Handed → Placed → Entry
-dotenv_entry handed p = entry.Dotenv (out-Justfile p.justfile).module_path (folder_of handed.config.working_directory p.justfile)
+dotenv_entry handed p = entry.Dotenv (out-Justfile p.justfile).module_path (working_folder_of handed.config.working_directory p.justfile)
 
 abbrev pub request_for : NumberSets → Placed → ScopeRequest
 request_for sets p = record { path = (out-Justfile p.justfile).module_path; set = asked sets p.lazy p.justfile }

@@ -23,7 +23,7 @@ use Rattle.just_recipe.specs.declared.dependency.Dependency.{Dependency}
 use Rattle.just_recipe.specs.declared.recipe.Recipe.{Recipe}
 use Rattle.just_recipe_body.specs.Body as body
 use Rattle.just_run_layers.specs.Evaluation.{Assignments, ConfigContents, ContextContents, NumberSet, config_contents}
-use Rattle.just_run_layers.specs.Host.{Answer, Paired, Refused, Scoped}
+use Rattle.just_run_layers.specs.Host.{Answer, Paired, Refused, ScopeGiven}
 use Rattle.just_run_layers.specs.Interactions.{Ask, Fail, Return, Interaction, ToEvaluator, ToHost, and_then}
 use Rattle.just_run_layers.specs.declared.environment.EnvironmentPair.{EnvironmentPair}
 use Rattle.just_run_layers.specs.declared.host.Entry.TheVariants as entry
@@ -66,20 +66,20 @@ pub record Inherited : Type 0 where
   pub dotenv : List EnvironmentPair
   pub scope : Scope
 
-abbrev pub nothing : Inherited
-nothing = record { dotenv = []; scope = record { bindings = [] } }
+abbrev pub nothing_inherited : Inherited
+nothing_inherited = record { dotenv = []; scope = record { bindings = [] } }
 
 abbrev pub hands : Option Opened → Inherited
-hands None = nothing
+hands None = nothing_inherited
 hands (Some o) = record { dotenv = o.dotenv; scope = o.scope }
 
 abbrev pub around : List Opened → Option ℕ → Inherited
-around opened None = nothing
+around opened None = nothing_inherited
 around opened (Some place) = hands (slice_get opened place)
 
 -- the folder for which dotenv files are asked and in which a program runs in place of recipes, which is that of bodies: the module's, and of the root the configuration's, where it has one
-abbrev pub folder_of : Option Text → Justfile → Text
-folder_of configured j = body.module_folder (out-Justfile j).module_path.components configured (out-Justfile j).working_directory
+abbrev pub working_folder_of : Option Text → Justfile → Text
+working_folder_of configured j = body.module_folder (out-Justfile j).module_path.components configured (out-Justfile j).working_directory
 
 -- a module's own pairs stand behind those of the modules around it
 abbrev pub pairs_answered : List EnvironmentPair → Answer → Interaction (List EnvironmentPair)
@@ -90,11 +90,11 @@ pairs_answered before _ = Fail Memory
 -- the dotenv pairs of a module; none are asked for where the configuration loads none
 abbrev pub dotenv_steps : ConfigContents → Justfile → List EnvironmentPair → Interaction (List EnvironmentPair)
 dotenv_steps config j before =
-    cond config.load_dotenv (Ask (ToHost (entry.Dotenv (out-Justfile j).module_path (folder_of config.working_directory j))) (pairs_answered before)) (Return [])
+    cond config.load_dotenv (Ask (ToHost (entry.Dotenv (out-Justfile j).module_path (working_folder_of config.working_directory j))) (pairs_answered before)) (Return [])
 
 -- the values of its variables: of a set of them, or of all
 abbrev pub scope_answered : Answer → Interaction Scope
-scope_answered (Scoped scope) = Return scope
+scope_answered (ScopeGiven scope) = Return scope
 scope_answered (Refused message) = Fail (unevaluated message)
 scope_answered _ = Fail Memory
 

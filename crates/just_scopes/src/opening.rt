@@ -16,7 +16,7 @@ ghost use Rattle.just_run_layers.specs.Evaluation.{config_contents, in_set, set_
 ghost use Rattle.just_run_layers.specs.Host.{KeepsPromises, executed};
 ghost use Rattle.just_run_layers.specs.Interactions.{log_of};
 ghost use Rattle.just_scopes.specs.Open.{AreLazyModules, AreOpenModules, Opens, OpensLazily, whose_opened, whose_placed};
-ghost use Rattle.just_scopes.specs.Opening.{around, dotenv_steps, folder_of, handed_of, opened_in, opened_of, scope_steps, setup_of};
+ghost use Rattle.just_scopes.specs.Opening.{around, dotenv_steps, working_folder_of, handed_of, opened_in, opened_of, scope_steps, setup_of};
 ghost use Rattle.just_scopes.specs.loops.Opening.{opened_as};
 ghost use Rattle.just_scopes.specs.loops.Opens.{AsksHostAlone, CanOpen, IsOpenedBy, IsSetFor, OpensAll, OpensOne, around_as, set_in, wanted_from};
 ghost use Rattle.just_scopes.specs.loops.Preorder.{placed};
@@ -86,7 +86,7 @@ fn handed_on<'src>(
 
 /// The folder of a module, for which its dotenv files are asked: its own, and of the root the configuration's, where it has one.
 pub fn folder_for<'a>(config: &'a Config, justfile: &'a Justfile) -> &'a Text
-    ensures { result.now ≡ folder_of config.now.working_directory justfile.now }
+    ensures { result.now ≡ working_folder_of config.now.working_directory justfile.now }
 {
     if justfile.module_path.components.is_empty() {
         if let Some(configured) = &config.working_directory {

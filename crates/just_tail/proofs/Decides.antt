@@ -13,7 +13,7 @@ use Rattle.just_tail.specs.Options.{place}
 use Rattle.just_tail.specs.Pieces.{OptionName, long, cluster, Supplied, nothing, equals, next, Piece, positional, dashes, option, with_value, option_word, value_of, next_of, words_of, switches_of, has_equals, IsOptionName, HasOptionName, is_dashed, IsNameless}
 use Rattle.just_tail.specs.Steps.{Step, use_switch, give, steps_of_piece, positionals_among, is_open, group_of, Need, unknown, duplicate, no_text, some_text, need, FitsNeed, StepsFollow, PiecesFollow, Ends}
 use Rattle.just_tail.specs.Cause.{ArgumentFault, invalid_option, unknown_option, duplicate_option, flag_with_value, option_missing_value}
-use Rattle.just_tail.specs.Tail.{IsTail, RefusesSwitch, given_nothing, Refused, BadOption, NoTail}
+use Rattle.just_tail.specs.Tail.{IsTail, RefusesSwitch, given_nothing, SwitchIsRefused, BadOption, NoTail}
 use Rattle.just_tail.specs.Checks.{CountFault, refusal, TakesArguments, StopsTail}
 use Rattle.just_tail.proofs.Fronts.{some_switch}
 use Rattle.just_tail.proofs.WordLemmas.{some_chars, with_dashes, with_dash, no_dash}
@@ -45,10 +45,10 @@ last some_text s None (w ∷ ws) = inl (next w, ws, refl, refl, tt)
 abbrev Switches : List Parameter → List Step → List Switch → Option Text → Words → Type 0
 Switches ps before ss value rest =
     ((g : Supplied) × (more : Words) × (value_of g ≡ value) × (rest ≡ next_of g ++ more) × StepsFollow ps before (give ss g))
-    ⊎ ((cause : ArgumentFault) × Refused ps before ss value rest cause)
+    ⊎ ((cause : ArgumentFault) × SwitchIsRefused ps before ss value rest cause)
 
 refused_here : (ps : List Parameter) (before : List Step) (s : Switch) (after : List Switch) (value : Option Text) (rest : Words) (cause : ArgumentFault) →
-    RefusesSwitch (need ps before s) s after value rest cause → Refused ps before (s ∷ after) value rest cause
+    RefusesSwitch (need ps before s) s after value rest cause → SwitchIsRefused ps before (s ∷ after) value rest cause
 refused_here ps before s after value rest cause p =
     record {
       front = [];
@@ -60,8 +60,8 @@ refused_here ps before s after value rest cause p =
     }
 
 refused_later : (ps : List Parameter) (before : List Step) (s : Switch) (ss : List Switch) (value : Option Text) (rest : Words) (cause : ArgumentFault) →
-    is_open ps before ≡ true → FitsNeed (need ps before s) nothing → Refused ps (before ++ use_switch s nothing ∷ []) ss value rest cause →
-    Refused ps before (s ∷ ss) value rest cause
+    is_open ps before ≡ true → FitsNeed (need ps before s) nothing → SwitchIsRefused ps (before ++ use_switch s nothing ∷ []) ss value rest cause →
+    SwitchIsRefused ps before (s ∷ ss) value rest cause
 refused_later ps before s ss value rest cause o f p =
     record {
       front = s ∷ p.front;

@@ -13,7 +13,7 @@ use Rattle.just_tail.specs.Options.{option_of, has_options}
 use Rattle.just_tail.specs.Pieces.{Supplied, nothing, equals, next, value_of, next_of, letters}
 use Rattle.just_tail.specs.Steps.{Step, take_word, close_options, use_switch, give, is_closed, is_open, text_given, Need, unknown, duplicate, no_text, some_text, asks, need, FitsNeed, IsNext, StepsFollow}
 use Rattle.just_tail.specs.Cause.{ArgumentFault}
-use Rattle.just_tail.specs.Tail.{RefusesSwitch, given_nothing, Refused}
+use Rattle.just_tail.specs.Tail.{RefusesSwitch, given_nothing, SwitchIsRefused}
 use Rattle.just_tail.specs.loops.Reader.{HasRead, HoldsAfter, HoldsOpen}
 use Rattle.just_tail.proofs.Outcomes.{IfOk_then}
 use Rattle.just_tail.proofs.GroupLemmas.{stands_use}
@@ -114,7 +114,7 @@ more_after (x ∷ xs) after h e = (cc)
 pub front_refused : (ps : List Parameter) (before : List Step) (cs : List ℕ) (i c : ℕ) (cause : ArgumentFault) → i < length cs → c ≡ get_or cs i c →
     StepsFollow ps before (given_nothing (letters (take i cs))) →
     RefusesSwitch (need ps (before ++ given_nothing (letters (take i cs))) (Short c)) (Short c) [] None [] cause →
-    (after : List Switch) (value : Option Text) (rest : Words) → after ≢ [] → Refused ps before (letters cs ++ after) value rest cause
+    (after : List Switch) (value : Option Text) (rest : Words) → after ≢ [] → SwitchIsRefused ps before (letters cs ++ after) value rest cause
 front_refused ps before cs i c cause h e reads refuses after value rest some =
     record {
       front = letters (take i cs);
@@ -161,7 +161,7 @@ cluster_read ps old middle new cs front last value rest r whole first given =
 pub last_refused : (ps : List Parameter) (before : List Step) (cs front : List ℕ) (last : ℕ) (value : Option Text) (rest : Words) (cause : ArgumentFault) → cs ≡ front ++ last ∷ [] →
     StepsFollow ps before (given_nothing (letters front)) →
     RefusesSwitch (need ps (before ++ given_nothing (letters front)) (Short last)) (Short last) [] value rest cause →
-    Refused ps before (letters cs) value rest cause
+    SwitchIsRefused ps before (letters cs) value rest cause
 last_refused ps before cs front last value rest cause e reads refuses =
     record {
       front = letters front;
@@ -174,7 +174,7 @@ last_refused ps before cs front last value rest cause e reads refuses =
 
 -- the only switch of an option is refused
 pub single_refused : (ps : List Parameter) (before : List Step) (s : Switch) (value : Option Text) (rest : Words) (cause : ArgumentFault) →
-    RefusesSwitch (need ps before s) s [] value rest cause → Refused ps before (s ∷ []) value rest cause
+    RefusesSwitch (need ps before s) s [] value rest cause → SwitchIsRefused ps before (s ∷ []) value rest cause
 single_refused ps before s value rest cause p =
     record {
       front = [];

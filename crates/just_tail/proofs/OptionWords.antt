@@ -10,7 +10,7 @@ use Rattle.just_tail.specs.Words.{Words}
 use Rattle.just_tail.specs.Pieces.{OptionName, long, cluster, Supplied, option_word, value_of, next_of, switches_of, IsOptionName}
 use Rattle.just_tail.specs.Steps.{use_switch, give, need, FitsNeed, StepsFollow}
 use Rattle.just_tail.specs.Cause.{tail_cause_of}
-use Rattle.just_tail.specs.Tail.{RefusesSwitch, Refused, BadOption}
+use Rattle.just_tail.specs.Tail.{RefusesSwitch, SwitchIsRefused, BadOption}
 use Rattle.just_tail.specs.loops.Reader.{HasRead, HoldsAfter, HoldsOpen}
 use Rattle.just_tail.proofs.Outcomes.{IfOk_then, IfCause_then}
 use Rattle.just_tail.proofs.OptionLemmas.{single_refused}
@@ -72,7 +72,7 @@ cluster_word ps old new word name value rest r is named given =
 -- or of which one is refused
 pub cluster_told : (ps : List Parameter) (old : Progress) (word name : Text) (value : Option Text) (rest : Words) (r : Result ℕ TailError) →
     word ≡ option_word (cluster name) value → IsOptionName (cluster name) →
-    IfErr r (λ e. IfSome (tail_cause_of e) (λ cause. HoldsOpen ps old (λ before. Refused ps before (switches_of (cluster name)) value rest cause))) →
+    IfErr r (λ e. IfSome (tail_cause_of e) (λ cause. HoldsOpen ps old (λ before. SwitchIsRefused ps before (switches_of (cluster name)) value rest cause))) →
     TellsOption ps old word rest r
 cluster_told ps old word name value rest r is named refuses =
     IfCause_then r refuses

@@ -31,7 +31,7 @@ abbrev pub given_nothing : List Switch → List Step
 given_nothing = map (λ s. use_switch s nothing)
 
 -- some of the switches are right, and then one is refused
-pub record Refused (ps : List Parameter) (before : List Step) (switches : List Switch) (value : Option Text) (rest : Words) (cause : ArgumentFault) : Type 0 where
+pub record SwitchIsRefused (ps : List Parameter) (before : List Step) (switches : List Switch) (value : Option Text) (rest : Words) (cause : ArgumentFault) : Type 0 where
   pub front : List Switch
   pub switch : Switch
   pub after : List Switch
@@ -46,7 +46,7 @@ pub record BadSwitch (ps : List Parameter) (before : List Step) (words : Words) 
   pub rest : Words
   pub whole : words ≡ option_word name value ∷ rest
   pub named : IsOptionName name
-  pub refused : Refused ps before (switches_of name) value rest cause
+  pub refused : SwitchIsRefused ps before (switches_of name) value rest cause
 
 -- the words begin with an option that has no name
 abbrev pub NamelessOption : Words → ArgumentFault → Type 0

@@ -9,7 +9,7 @@ ghost use Rattle.just_tail.specs.Options.{option_of};
 ghost use Rattle.just_tail.specs.Pieces.{OptionName, cluster, letters, Supplied, value_of, next_of, with_value, option_word, has_equals, is_dashed, IsOptionName, switches_of};
 ghost use Rattle.just_tail.specs.Steps.{asks, use_switch, give, may_use, need, FitsNeed, StepsFollow};
 ghost use Rattle.just_tail.specs.Cause.{invalid_option, tail_cause_of};
-ghost use Rattle.just_tail.specs.Tail.{RefusesSwitch, Refused, BadOption, given_nothing};
+ghost use Rattle.just_tail.specs.Tail.{RefusesSwitch, SwitchIsRefused, BadOption, given_nothing};
 ghost use Rattle.just_tail.specs.loops.Reader.{switch_of, IsTailPlan, HasRead, HoldsAfter, HoldsOpen};
 
 use crate::error::TailError;
@@ -165,7 +165,7 @@ fn apply_front<'src>(
         StepsFollow ps before (given_nothing (letters front.now)) × HasRead ps (before ++ given_nothing (letters front.now)) progress.new)) }
     ensures err { let ps = plan.now.parameters.now in IfErr result (λ e. IfSome (tail_cause_of e) (λ cause. HoldsOpen ps progress.old (λ before.
         (after : List Named) (value : Option Name) (rest : Words) → after ≢ []
-        → Refused ps before (letters front.now ++ after) value rest cause))) }
+        → SwitchIsRefused ps before (letters front.now ++ after) value rest cause))) }
 {
     for letter in front {
         match apply(
@@ -204,7 +204,7 @@ fn read_cluster<'src, 'words>(
         × StepsFollow ps before (give (switches_of (cluster name.now)) g)
         × HasRead ps (before ++ give (switches_of (cluster name.now)) g) progress.new)) }
     ensures err { let ps = plan.now.parameters.now in IfErr result (λ e. IfSome (tail_cause_of e) (λ cause. HoldsOpen ps progress.old (λ before.
-        Refused ps before (switches_of (cluster name.now)) (value_text value.entry) (texts rest.now) cause))) }
+        SwitchIsRefused ps before (switches_of (cluster name.now)) (value_text value.entry) (texts rest.now) cause))) }
 {
     let characters = characters(alloc, name)?;
     let Some((last, front)) = characters.split_last() else {

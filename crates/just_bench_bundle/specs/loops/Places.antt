@@ -6,7 +6,7 @@ use Rattle.just_bench_syntax.specs.Answers.{answers}
 use Rattle.just_errors.specs.Causes.{NoHome}
 use Rattle.just_errors.specs.declared.error.Error.{Error}
 use Rattle.just_errors.specs.declared.error.Error.TheVariants as error
-use Rattle.just_loader.specs.Links.{Link, Nowhere, To, Fault}
+use Rattle.just_loader.specs.Links.{Link, Unlinked, To, AtFault}
 use Rattle.just_loader.specs.Reached.{World, world_of, items_of_file}
 use Rattle.just_loader.specs.Sources.{Files}
 use Rattle.just_names.specs.Texts.{Text}
@@ -31,10 +31,10 @@ HasItems files root path items = (config : Config) → items_of_file (world_of f
 
 -- what a search asks of what an item leads to
 abbrev pub lead_of : Link → Lead
-lead_of Nowhere = lead.Other
+lead_of Unlinked = lead.Other
 lead_of (To path) = lead.To path
-lead_of (Fault NoHome) = lead.Home
-lead_of (Fault _) = lead.Other
+lead_of (AtFault NoHome) = lead.Home
+lead_of (AtFault _) = lead.Other
 
 -- the error is not that memory or numbers are wanting
 abbrev pub IsOfText : Error → Type 0

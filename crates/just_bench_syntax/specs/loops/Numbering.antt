@@ -1,6 +1,6 @@
 -- What private functions say beside `Numbering.antt`.
 use Rattle.std.specs.Prelude.{ℕ, ◌^◌, ◌<◌, ◌≤◌, List}
-use Rattle.just_parts.specs.Syntax.{AreRising, numbers}
+use Rattle.just_parts.specs.Syntax.{AreRising, numbers_of_items}
 use Rattle.just_errors.specs.declared.error.Error.{Error}
 use Rattle.just_errors.specs.declared.error.Error.TheVariants as error
 

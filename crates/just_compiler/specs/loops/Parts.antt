@@ -32,7 +32,7 @@ use Rattle.just_module_contents.specs.declared.labels.Label.{Label}
 use Rattle.just_parts.specs.Asts.{AstKey}
 use Rattle.just_parts.specs.Items.{Ast, Item}
 use Rattle.just_parts.specs.Layers.{Layers}
-use Rattle.just_parts.specs.Evaluator.{Evaluator, values_of}
+use Rattle.just_parts.specs.Evaluator.{Evaluator, scope_values}
 use Rattle.just_parts.specs.Needs.{has_number}
 use Rattle.just_parts.specs.Syntax.{SyntaxAnswers}
 use Rattle.just_ast_expressions.specs.declared.expression.Expression.{Expression}
@@ -71,7 +71,7 @@ value_of evaluator it = value_among evaluator (contents_in it.definitions) (eval
 
 -- whatever is evaluated of it while compiling reads what has a value
 abbrev pub IsCheckedCovered : Checked → Type 0
-IsCheckedCovered it = CoversAll it.variables (values_of it.constants.scope) (constant_expressions (contents_in it.definitions))
+IsCheckedCovered it = CoversAll it.variables (scope_values it.constants.scope) (constant_expressions (contents_in it.definitions))
 
 -- what its recipes are completed to
 abbrev pub completion_here : SyntaxAnswers → Evaluator → Checked → Completion

@@ -2,7 +2,7 @@
 use Rattle.std.specs.Prelude.{◌≡◌, ◌<◌, true, List, [], ◌∷◌, length, Some, IsSome}
 use Rattle.std.specs.List.{slice_get}
 use Rattle.just_names.specs.Texts.{Text}
-use Rattle.just_parts.specs.Evaluator.{values_of}
+use Rattle.just_parts.specs.Evaluator.{scope_values}
 use Rattle.just_parts.specs.Scopes.{is_parameter}
 use Rattle.just_parts.specs.Syntax.{SyntaxAnswers}
 use Rattle.just_recipe.specs.declared.dependency.Dependency.{Dependency}
@@ -20,7 +20,7 @@ pub record IsCallable (answers : SyntaxAnswers) (modules : Modules) (recipes : L
 -- what is held serves a recipe in a module: what the recipe reads is bound in it, and each of the recipe's parameters has a value
 pub record ServesIn (answers : SyntaxAnswers) (m : ModuleScope) (r : Recipe Dependency) (h : Held) : Type 0 where
   pub bound : IsBound answers m r h.scope
-  pub named : (name : Text) → is_parameter r.parameters name ≡ true → IsSome (values_of h.scope name)
+  pub named : (name : Text) → is_parameter r.parameters name ≡ true → IsSome (scope_values h.scope name)
 
 -- it serves a task: in the module of the task's recipe
 abbrev pub IsServed : SyntaxAnswers → Modules → List (Recipe Dependency) → Task → Held → Type 0

@@ -7,7 +7,7 @@ use Rattle.just_graph.specs.declared.unfolding.Step.{Step}
 use Rattle.just_graph.specs.declared.unfolding.Unfolded.{Unfolded}
 use Rattle.just_parts.specs.Bare.{bare_ast}
 use Rattle.just_paths.specs.Clean.{folder_of}
-use Rattle.just_parts.specs.Syntax.{SyntaxAnswers, AreNoConstants, AttributesNameParameters, IsFrom, PriorsAreDependencies, components_of, numbers}
+use Rattle.just_parts.specs.Syntax.{SyntaxAnswers, AreNoConstants, AttributesNameParameters, IsFrom, PriorsAreDependencies, components_of, numbers_of_items}
 use Rattle.just_names.specs.Texts.{Text}
 use Rattle.just_parts.specs.Items.{Ast, Item}
 use Rattle.just_errors.specs.declared.error.Error.{Error}
@@ -86,7 +86,7 @@ pub record IsSaid (w : World) (path : Text) (source : Source) (ast : Ast) : Type
 pub record KeepsLaws (answers : SyntaxAnswers) (ast : Ast) : Type 0 where
   pub priors : All PriorsAreDependencies ast.items
   pub attributes : All AttributesNameParameters ast.items
-  pub constants : AreNoConstants answers.constant (numbers ast.items)
+  pub constants : AreNoConstants answers.constant (numbers_of_items ast.items)
 
 -- what the texts of the first nodes say
 abbrev pub AreParsedSoFar : World → Scan → List Node → List Ast → Type 0

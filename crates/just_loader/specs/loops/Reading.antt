@@ -2,7 +2,7 @@
 use Rattle.std.specs.Prelude.{◌≡◌, ℕ, ◌+◌, ◌≤◌, ◌^◌, false, List, [], ◌∷◌, map, Option, Some, None, set, slice_get}
 use Rattle.std.specs.List.{Contains}
 use Rattle.just_parts.specs.Bare.{bare_ast}
-use Rattle.just_parts.specs.Syntax.{SyntaxAnswers, AreRising, IsFrom, components_of, numbers}
+use Rattle.just_parts.specs.Syntax.{SyntaxAnswers, AreRising, IsFrom, components_of, numbers_of_items}
 use Rattle.just_parts.specs.Items.{Ast, Item}
 use Rattle.just_ast_items.specs.declared.item.Item.TheVariants as item
 use Rattle.just_source.specs.declared.source.Source.{Source}
@@ -39,7 +39,7 @@ IsRead answers relative text ast = (source : Source) × IsReadBy answers relativ
 -- The text is read, and its numbers go on from those that were given.
 pub record GoesOn (answers : SyntaxAnswers) (relative text : Text) (given after : ℕ) (ast : Ast) : Type 0 where
   pub read : IsRead answers relative text ast
-  pub rising : AreRising given (numbers ast.items) after
+  pub rising : AreRising given (numbers_of_items ast.items) after
   pub spent : after ≡ given + answers.spends relative text
 
 -- how many numbers the text of a file takes
@@ -55,8 +55,8 @@ spent_on answers (f ∷ fs) (Some ast ∷ asts) = takes answers f + spent_on ans
 
 -- Numbers are below `high` and tell all definitions apart: those of a text rise, and no number is in two.
 pub record AreApartBelow (asts : List (Option Ast)) (high : ℕ) : Type 0 where
-  pub rising : (k : ℕ) (ast : Ast) → slice_get asts k ≡ Some (Some ast) → (low : ℕ) × AreRising low (numbers ast.items) high
-  pub apart : (i j : ℕ) (a b : Ast) (n : ℕ) → slice_get asts i ≡ Some (Some a) → slice_get asts j ≡ Some (Some b) → Contains (numbers a.items) n → Contains (numbers b.items) n → i ≡ j
+  pub rising : (k : ℕ) (ast : Ast) → slice_get asts k ≡ Some (Some ast) → (low : ℕ) × AreRising low (numbers_of_items ast.items) high
+  pub apart : (i j : ℕ) (a b : Ast) (n : ℕ) → slice_get asts i ≡ Some (Some a) → slice_get asts j ≡ Some (Some b) → Contains (numbers_of_items a.items) n → Contains (numbers_of_items b.items) n → i ≡ j
 
 -- the same of texts of which none is taken
 abbrev pub ShareNoNumbers : List Ast → Type 0
@@ -75,7 +75,7 @@ pub record AreRead (answers : SyntaxAnswers) (files : List ScannedFile) (texts :
 
 -- What is read of the text at a place has these numbers: it was read before and is taken, or it takes so many numbers now.
 pub data TakesText (place spends : ℕ) (old new : ReadTexts) (ns : List ℕ) : Type 0 where
-  was_read : (ast : Ast) → slice_get old.asts.items place ≡ Some (Some ast) → ns ≡ numbers ast.items → new.asts.items ≡ set old.asts.items place None → new.numerator ≡ old.numerator → TakesText place spends old new ns
+  was_read : (ast : Ast) → slice_get old.asts.items place ≡ Some (Some ast) → ns ≡ numbers_of_items ast.items → new.asts.items ≡ set old.asts.items place None → new.numerator ≡ old.numerator → TakesText place spends old new ns
   is_read : new.asts.items ≡ old.asts.items → AreRising old.numerator ns new.numerator → new.numerator ≡ old.numerator + spends → TakesText place spends old new ns
 
 -- the same of the text of a scanned file

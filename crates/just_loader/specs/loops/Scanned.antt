@@ -5,14 +5,14 @@ use Rattle.std.specs.declared.vec.Vec.{Vec}
 use Rattle.std.specs.declared.alloc.Global.{Global}
 use Rattle.just_graph.specs.Unfolding.{LeadInside}
 use Rattle.just_graph.specs.declared.unfolding.Step.{Step}
-use Rattle.just_graph.specs.Unfolded.{AreApart}
+use Rattle.just_graph.specs.Unfolded.{AreDistinct}
 use Rattle.just_errors.specs.Causes.{Cause}
 use Rattle.just_paths.specs.Clean.{IsClean, folder_of}
 use Rattle.just_ast_items.specs.Edge.{Edge, Imports, Declares, edge_of}
 use Rattle.just_names.specs.declared.name.Name.{Name}
 use Rattle.just_names.specs.Texts.{Text}
 use Rattle.just_parts.specs.Items.{Item}
-use Rattle.just_loader.specs.Links.{Link, Nowhere, To, Fault}
+use Rattle.just_loader.specs.Links.{Link, Unlinked, To, AtFault}
 use Rattle.just_loader.specs.loops.Numbering.{IsNamed, paths_found}
 use Rattle.just_loader.specs.Reached.{World, IsReachedFile, items_of_file, link, relative_to_root}
 use Rattle.just_loader.specs.Sources.{text_at}
@@ -23,11 +23,11 @@ use Rattle.just_loader.specs.declared.scanned.ScannedFile.{ScannedFile}
 
 -- the place of the path to which a link leads
 abbrev pub IsPlaceOf : List Text → Link → Option ℕ → Type 0
-IsPlaceOf paths Nowhere None = Unit {0}
-IsPlaceOf paths Nowhere (Some place) = ⊥
+IsPlaceOf paths Unlinked None = Unit {0}
+IsPlaceOf paths Unlinked (Some place) = ⊥
 IsPlaceOf paths (To path) None = ⊥
 IsPlaceOf paths (To path) (Some place) = slice_get paths place ≡ Some path
-IsPlaceOf paths (Fault cause) place = ⊥
+IsPlaceOf paths (AtFault cause) place = ⊥
 
 -- the same of each link, with the place beside it
 abbrev pub ArePlacesOf : List Text → List Link → List (Option ℕ) → Type 0
@@ -84,7 +84,7 @@ AreScanned w paths names files rows = (k : ℕ) (file : ScannedFile) (row : Vec 
 -- The reached files, each once and under a clean path, the root first, each with its row, whose steps lead to rows.
 pub record IsScan (w : World) (scan : Scan) : Type 0 where
   pub reached : (path : Text) → Contains (paths_in scan.files.items) path ↔ IsReachedFile w path
-  pub once : AreApart (paths_in scan.files.items)
+  pub once : AreDistinct (paths_in scan.files.items)
   pub clean : All IsClean (paths_in scan.files.items)
   pub root : slice_get (paths_in scan.files.items) 0 ≡ Some w.root
   pub count : length scan.rows.items ≡ length scan.files.items
@@ -109,7 +109,7 @@ FindsAll links = Finds (λ path. Contains links (To path))
 
 -- a link is at fault
 abbrev pub HasFault : List Link → Cause → Type 0
-HasFault links cause = Contains links (Fault cause)
+HasFault links cause = Contains links (AtFault cause)
 
 abbrev pub ArePlacesIn : Found → List Link → List (Option ℕ) → Type 0
 ArePlacesIn found = ArePlacesOf (paths_found found)

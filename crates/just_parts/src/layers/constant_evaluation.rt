@@ -5,7 +5,7 @@ ghost use Rattle.std.specs.HashSet.{contains};
 ghost use Rattle.std.specs.List.{All};
 ghost use Rattle.just_names.specs.Index.{texts_of_names};
 ghost use Rattle.just_names.specs.Texts.{texts};
-ghost use Rattle.just_parts.specs.Evaluator.{Binds, Covers, Evaluator, FaultsAt, bare_set, count_fault_of, functions_by_name, set_expressions, values_of, wanted_by};
+ghost use Rattle.just_parts.specs.Evaluator.{Binds, Covers, Evaluator, FaultsAt, bare_set, count_fault_of, functions_by_name, set_expressions, scope_values, wanted_by};
 ghost use Rattle.just_parts.specs.Known.{sources};
 ghost use Rattle.just_parts.specs.Needs.{IsClosed, has_number, same_number};
 ghost use Rattle.just_parts.specs.Reading.{IsEvaluationOrder};
@@ -43,7 +43,7 @@ pub trait ConstantEvaluation {
         requires order { IsEvaluationOrder (sources assignments.now functions.now) (texts_of_names order.now) }
         requires closed { IsClosed (sources assignments.now functions.now) (has_number overrides.now) (contains same_number references.now) }
         ensures constants { let wanted = wanted_by assignments.now functions.now (get same_number overrides.now) (contains same_number references.now) lists in
-            IfOk result (λ scope. (answers self.now).constants wanted ≡ Some (values_of scope)) }
+            IfOk result (λ scope. (answers self.now).constants wanted ≡ Some (scope_values scope)) }
         ensures binds { let wanted = wanted_by assignments.now functions.now (get same_number overrides.now) (contains same_number references.now) lists in
             IfOk result (Binds assignments.now wanted) }
         ensures refused { let wanted = wanted_by assignments.now functions.now (get same_number overrides.now) (contains same_number references.now) lists in
@@ -59,10 +59,10 @@ pub trait ConstantEvaluation {
         functions: &Table<'src, FunctionDefinition<'src>>,
         expression: &Expression<'src>,
     ) -> Result<Sequence<Text>, Error<'src>>
-        requires covered { Covers (sources assignments.now functions.now) (values_of constants.now) expression.now }
-        ensures value { let among = (answers self.now).value (functions_by_name functions.now) (values_of constants.now) in
+        requires covered { Covers (sources assignments.now functions.now) (scope_values constants.now) expression.now }
+        ensures value { let among = (answers self.now).value (functions_by_name functions.now) (scope_values constants.now) in
             IfOk result (λ value. among (bare expression.now) ≡ Some value) }
-        ensures refused { let among = (answers self.now).value (functions_by_name functions.now) (values_of constants.now) in
+        ensures refused { let among = (answers self.now).value (functions_by_name functions.now) (scope_values constants.now) in
             IfErr result (FaultsAt (among (bare expression.now))) }
         ensures told { IfErr result (IsToldIn (IsPlaceIn functions.now expression.now)) };
 
@@ -75,10 +75,10 @@ pub trait ConstantEvaluation {
         functions: &Table<'src, FunctionDefinition<'src>>,
         sets: &[Set<'src>],
     ) -> Result<Settings, Error<'src>>
-        requires covered { All (Covers (sources assignments.now functions.now) (values_of constants.now)) (flat_map set_expressions sets.now) }
-        ensures settings { let among = (answers self.now).settings (functions_by_name functions.now) (values_of constants.now) in
+        requires covered { All (Covers (sources assignments.now functions.now) (scope_values constants.now)) (flat_map set_expressions sets.now) }
+        ensures settings { let among = (answers self.now).settings (functions_by_name functions.now) (scope_values constants.now) in
             IfOk result (λ made. among (map bare_set sets.now) ≡ Some made) }
-        ensures refused { let among = (answers self.now).settings (functions_by_name functions.now) (values_of constants.now) in
+        ensures refused { let among = (answers self.now).settings (functions_by_name functions.now) (scope_values constants.now) in
             IfErr result (FaultsAt (among (map bare_set sets.now))) }
         ensures told { IfErr result (IsToldIn (IsPlaceInOne functions.now (flat_map set_expressions sets.now))) };
 

@@ -14,7 +14,7 @@ use Rattle.just_errors.specs.Causes.{Broken, Cause}
 use Rattle.just_errors.specs.declared.compile_error.CompileErrorKind.TheVariants as kind
 use Rattle.just_errors.specs.declared.fault.Fault.{Fault}
 use Rattle.just_module_contents.specs.RecipeValues.{patterns_in, text_said}
-use Rattle.just_parts.specs.Evaluator.{Covers, values_of}
+use Rattle.just_parts.specs.Evaluator.{Covers, scope_values}
 use Rattle.just_parts.specs.Known.{sources}
 use Rattle.just_parts.specs.Scopes.{compiled_expressions, property_expressions}
 use Rattle.just_patterns.specs.Pattern.{IsRefused, reading}
@@ -22,7 +22,7 @@ use Rattle.just_recipe_values.specs.declared.among.Among.{Among}
 
 -- whatever these expressions read has a value
 abbrev pub CoversEach : {E : Type 0} → Among E → List Expression → Type 0
-CoversEach it es = (e : Expression) → Contains es e → Covers (sources it.assignments.now it.functions.now) (values_of it.constants.now) e
+CoversEach it es = (e : Expression) → Contains es e → Covers (sources it.assignments.now it.functions.now) (scope_values it.constants.now) e
 
 -- the expressions of the docs, helps and patterns of attributes, and the properties that are patterns
 abbrev pub expressions_among : List (NamedAttribute Expression) → List Expression

@@ -9,7 +9,7 @@ use Rattle.just_bench_bundle.specs.loops.Walk.{LeavesNone, found_in}
 use Rattle.just_bench_bundle.proofs.Walking.{none_home, started, told, visited}
 use Rattle.just_bench_syntax.specs.Answers.{answers}
 use Rattle.just_errors.specs.Causes.{NoHome}
-use Rattle.just_loader.specs.Links.{Fault}
+use Rattle.just_loader.specs.Links.{AtFault}
 use Rattle.just_loader.specs.Reached.{World, FileLeadsTo, world_of}
 use Rattle.just_loader.proofs.Numberings.{map_get}
 use Rattle.just_names.specs.Texts.{Text}
@@ -27,7 +27,7 @@ returns-in-Some c =
     let items = c.files.walk.found.items in
     let inside : c.files.place < length items = grind (arith, common_steps) in
     let at : slice_get (found_in c.files.walk) c.files.place ≡ Some path = map_get (λ t. t.now) items c.files.place c.index-path.result.now (slice_get_read items (length items) c.files.place c.index-path.result.now refl inside c.index-path.ensures) in
-    told w c.files.walk c.files.place c.files.invariant path (record { path = c.new-in-Some.result; line = c.in-Some.line }) at c.new-in-Some.ensures (subst (FindsIn w path (Fault NoHome)) c.in-Some.is c.in_ok-line.ensures.line)
+    told w c.files.walk c.files.place c.files.invariant path (record { path = c.new-in-Some.result; line = c.in-Some.line }) at c.new-in-Some.ensures (subst (FindsIn w path (AtFault NoHome)) c.in-Some.is c.in_ok-line.ensures.line)
 
 pub files-preserved : goal.files-preserved
 files-preserved c =
@@ -36,7 +36,7 @@ files-preserved c =
     let items = c.files.walk.found.items in
     let inside : c.files.place < length items = grind (arith, common_steps) in
     let at : slice_get (found_in c.files.walk) c.files.place ≡ Some path = map_get (λ t. t.now) items c.files.place c.index-path.result.now (slice_get_read items (length items) c.files.place c.index-path.result.now refl inside c.index-path.ensures) in
-    visited w c.files.walk c.files.place c.files.invariant path c.visit_file.new.walk at c.in_ok-line.ensures.walks (subst (FindsIn w path (Fault NoHome)) c.in_default.is c.in_ok-line.ensures.line)
+    visited w c.files.walk c.files.place c.files.invariant path c.visit_file.new.walk at c.in_ok-line.ensures.walks (subst (FindsIn w path (AtFault NoHome)) c.in_default.is c.in_ok-line.ensures.line)
     (subst (λ line. IfNone line (IsClean path → LeavesNone (FileLeadsTo w path) c.visit_file.new.walk)) c.in_default.is c.in_ok-line.ensures.found)
 
 pub returns : goal.returns

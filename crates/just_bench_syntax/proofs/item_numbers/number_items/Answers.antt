@@ -4,7 +4,7 @@ use Rattle.std.proofs.lemmas.List.{append-nil, length-set, take_more_set}
 use Rattle.std.proofs.lemmas.List.Elements.{All-nil, All-push, All-rest}
 use Rattle.std.proofs.lemmas.Grind.{flat_map-append}
 use Rattle.just_parts.specs.Bare.{bare_item}
-use Rattle.just_parts.specs.Syntax.{ItemCameBy, item_numbers, numbers}
+use Rattle.just_parts.specs.Syntax.{ItemCameBy, item_numbers, numbers_of_items}
 use Rattle.just_bench_syntax.proofs.Numbers.{counted_rest, first, map_all, numbered_next, numbered_none, rest}
 use Rattle.just_bench_syntax.proofs.item_numbers.number_items.Goals as goal
 
@@ -37,7 +37,7 @@ loop-place-preserved c =
       bare = map-set_same bare_item xs k new old (c.in_ok-number_item.ensures.bare ∙ sym was ∙ ap bare_item c.index_mut.ensures.value) ∙ c.loop-place.invariant.bare;
       left = All-rest (λ i. bare_item i ≡ i) old (drop (k + 1) (set xs k new)) (drop k xs) rests c.loop-place.invariant.left;
       source = rw (take_more_set xs k new within) (All-push (ItemCameBy c.args.source.now) _ new c.loop-place.invariant.source c.in_ok-number_item.ensures.source);
-      numbered = numbered_next numbers (flat_map-append item_numbers) c.args.numerator.now xs k new c.loop-place.numerator c.number_item.new.numerator within c.loop-place.invariant.numbered
+      numbered = numbered_next numbers_of_items (flat_map-append item_numbers) c.args.numerator.now xs k new c.loop-place.numerator c.number_item.new.numerator within c.loop-place.invariant.numbered
           (rw (append-nil (item_numbers new)) c.in_ok-number_item.ensures.numbered);
       spent = omega (arith, c.loop-place.invariant.spent, c.in_ok-number_item.ensures.spent, counted_rest xs k old new within c.index_mut.ensures.value);
       onward = omega arith;

@@ -3,7 +3,7 @@ use Rattle.std.specs.List.{Contains, flat_map}
 use Rattle.std.specs.Option.{option_and_then}
 use Rattle.std.proofs.lemmas.List.{drop_all}
 use Rattle.std.proofs.lemmas.Result.{IfErr-weaker}
-use Rattle.just_parts.specs.Evaluator.{FaultsAt, functions_by_name, set_expressions, values_of}
+use Rattle.just_parts.specs.Evaluator.{FaultsAt, functions_by_name, set_expressions, scope_values}
 use Rattle.just_ast_definitions.specs.declared.setting.Set.{Set}
 use Rattle.just_bench_values.specs.Settings.{plain_settings, setting_with, settings_with}
 use Rattle.just_bench_values.specs.Values.{none_bound, value_of}
@@ -17,13 +17,13 @@ use Rattle.just_bench_values.proofs.settings.settings_of.Goals as goal
 
 pub loop-one-init : goal.loop-one-init
 loop-one-init c =
-    let value = value_of (functions_by_name c.args.functions.now) (values_of c.args.constants.now) in
+    let value = value_of (functions_by_name c.args.functions.now) (scope_values c.args.constants.now) in
     ap (settings_with value c.args.sets.now) c.in_ok-settings.ensures
 
 pub returns-in_err-set-clause-refused : goal.returns-in_err-set-clause-refused
 returns-in_err-set-clause-refused c =
     let functions = functions_by_name c.args.functions.now in
-    let constants = values_of c.args.constants.now in
+    let constants = scope_values c.args.constants.now in
     let value = value_of functions constants in
     let sets = c.args.sets.now in
     let i = c.loop-one.one-index in
@@ -44,7 +44,7 @@ returns-in_err-set-clause-told c =
 pub returns-clause-settings : goal.returns-clause-settings
 returns-clause-settings c =
     let functions = functions_by_name c.args.functions.now in
-    let constants = values_of c.args.constants.now in
+    let constants = scope_values c.args.constants.now in
     let value = value_of functions constants in
     bare_sets value (bare_with 64 functions constants none_bound) c.args.sets.now plain_settings
     ∙ sym c.loop-one.invariant
@@ -53,7 +53,7 @@ returns-clause-settings c =
 pub returns-clause-programs : goal.returns-clause-programs
 returns-clause-programs c =
     let functions = functions_by_name c.args.functions.now in
-    let constants = values_of c.args.constants.now in
+    let constants = scope_values c.args.constants.now in
     let value = value_of functions constants in
     made_has value c.args.sets.now c.loop-one.settings
     (sym c.loop-one.invariant ∙ ap (λ xs. settings_with value xs c.loop-one.settings) (drop_all c.loop-one.one-index c.args.sets.now (omega arith)))

@@ -21,7 +21,7 @@ use Rattle.just_module_recipes.specs.loops.Broken.{BreaksRecipes, in_bodies}
 use Rattle.just_module_recipes.specs.Completed.{TellsLinks}
 use Rattle.just_module_recipes.specs.Links.{BreaksLinks, Stands, around}
 use Rattle.just_names.specs.Index.{AreDifferent}
-use Rattle.just_parts.specs.Evaluator.{values_of}
+use Rattle.just_parts.specs.Evaluator.{scope_values}
 use Rattle.just_parts.specs.Layers.{given_by, layers_at}
 use Rattle.just_recipe.specs.declared.dependency.UnresolvedDependency.{UnresolvedDependency}
 use Rattle.just_recipe.specs.declared.recipe.Recipe.{Recipe}
@@ -49,7 +49,7 @@ pub resolve_kept-requires-clause-covered : goal.resolve_kept-requires-clause-cov
 resolve_kept-requires-clause-covered g c = λ i h.
     let checked = c.args.checked.now in
     let qs = recipes_in checked.definitions in
-    covers_kept checked.variables (values_of checked.constants.scope) (contents_in checked.definitions) c.requires.covered (recipes_in c.in_ok-kept.kept) c.in_ok-kept.ensures i h
+    covers_kept checked.variables (scope_values checked.constants.scope) (contents_in checked.definitions) c.requires.covered (recipes_in c.in_ok-kept.kept) c.in_ok-kept.ensures i h
 
 pub returns-in_err-check_bodies-clause-named : goal.returns-in_err-check_bodies-clause-named
 returns-in_err-check_bodies-clause-named g c =
@@ -69,7 +69,7 @@ returns-clause-own g c =
     let checked = c.args.checked.now in
     let answers = g.S.Syntax.answers c.args.given.now.syntax.now in
     let evaluator = g.E.ConstantEvaluation.answers c.args.given.now.evaluation.now in
-    let values = values_of checked.constants.scope in
+    let values = scope_values checked.constants.scope in
     let m = contents_in checked.definitions in
     let settings = checked.constants.settings in
     let here = rule_here answers evaluator m checked.variables c.requires.variables values settings in
@@ -85,7 +85,7 @@ pub returns-clause-named : goal.returns-clause-named
 returns-clause-named g c =
     let checked = c.args.checked.now in
     let layers = layers_at (given_by g.S.Syntax.answers g.E.ConstantEvaluation.answers c.args.given.now) c.args.path.now in
-    let values = values_of checked.constants.scope in
+    let values = scope_values checked.constants.scope in
     let m = contents_in checked.definitions in
     let settings = checked.constants.settings in
     let here = rule_here layers.syntax layers.evaluator m checked.variables c.requires.variables values settings in
@@ -107,7 +107,7 @@ returns-clause-linked g c =
     let checked = c.args.checked.now in
     let answers = g.S.Syntax.answers c.args.given.now.syntax.now in
     let evaluator = g.E.ConstantEvaluation.answers c.args.given.now.evaluation.now in
-    let values = values_of checked.constants.scope in
+    let values = scope_values checked.constants.scope in
     let m = contents_in checked.definitions in
     let settings = checked.constants.settings in
     let rs = kept_recipes (recipes_in checked.definitions) in

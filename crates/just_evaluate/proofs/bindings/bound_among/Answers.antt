@@ -1,7 +1,7 @@
 use Rattle.std.proofs.Common.{◌≡◌, ◌∙◌, ◌<◌, ap, length, map, refl, subst, sym}
 use Rattle.std.specs.Option.{option_copied}
 use Rattle.just_names.specs.Name.{text_of_name}
-use Rattle.just_parts.specs.Evaluator.{values_of}
+use Rattle.just_parts.specs.Evaluator.{scope_values}
 use Rattle.just_evaluate.specs.loops.Bindings.{bound_behind}
 use Rattle.just_evaluate.proofs.Bound.{bound_more, unbound_more}
 use Rattle.just_evaluate.proofs.bindings.bound_among.Goals as goal
@@ -16,8 +16,8 @@ loop-place-preserved c =
     let place = c.loop-place.place in
     let within : place < length variables = subst (λ n. place < n) (c.len-place-end.ensures ∙ c.args.variables.now.ok.0) c.loop-place-test.true in
     let key : c.new-name.result ≡ text_of_name a.now.name = c.new-name.ensures ∙ c.lexeme.ensures in
-    let value : values_of scope (text_of_name a.now.name) ≡ option_copied (option_copied c.get.result) =
-    ap (values_of scope) (sym key) ∙ sym (c.in_ok-values.ensures c.new-name.result) ∙ ap option_copied (sym c.get.ensures.value) in
+    let value : scope_values scope (text_of_name a.now.name) ≡ option_copied (option_copied c.get.result) =
+    ap (scope_values scope) (sym key) ∙ sym (c.in_ok-values.ensures c.new-name.result) ∙ ap option_copied (sym c.get.ensures.value) in
     elim c.match-get.branch [
       | in-Some+in_ok-push w ↦
           ap (λ v. map bound_behind v.items) w.found-is

@@ -1,6 +1,6 @@
 use Rattle.std.proofs.Common.{◌≡◌, Result, Ok, Err, map, refl, rules}
 use Rattle.std.specs.HashSet.{contains}
-use Rattle.just_errors.specs.Halts.{come_to, error_of, without}
+use Rattle.just_errors.specs.Halts.{come_to, error_of, discard_value}
 use Rattle.just_errors.specs.declared.halt.Halt.{Halt}
 use Rattle.just_errors.specs.declared.halt.Halt.TheVariants.{Memory}
 use Rattle.just_execution.proofs.Standing.{ok-not}
@@ -76,7 +76,7 @@ returns-clause-outcome g c =
     let new = log_of (g.H.Host.entries c.run_program.new.host) (g.E.Evaluation.requests c.run_program.new.evaluation) in
     let ended : Result Report Halt = Ok (record { calls = c.new.result }) in
     program-ran root handed e h program old new (come_to ended) (contains same_number numbers) (holds-none numbers c.new-numbers.ensures.empty) _ _ c.in_ok-opened.ensures.keeps c.in_ok-opened.ensures.keeps_host
-    (map opened_of c.in_ok-opened.opened.items) mid c.in_ok-opened.ensures.took c.in_ok-opened.ensures.open c.in_ok-opened.ensures.nothing_runs ended refl c.new.ensures.items (λ k. absurd (ok-not (without ended) tt Memory refl k)) c.in_ok-run_program.ensures.took c.in_ok-run_program.ensures.nothing_runs
+    (map opened_of c.in_ok-opened.opened.items) mid c.in_ok-opened.ensures.took c.in_ok-opened.ensures.open c.in_ok-opened.ensures.nothing_runs ended refl c.new.ensures.items (λ k. absurd (ok-not (discard_value ended) tt Memory refl k)) c.in_ok-run_program.ensures.took c.in_ok-run_program.ensures.nothing_runs
 
 pub returns-clause-expected : goal.returns-clause-expected
 returns-clause-expected g c =

@@ -5,7 +5,7 @@ use Rattle.std.specs.Borrow.{Bor}
 use Rattle.just_names.specs.Texts.{Text, texts}
 use Rattle.just_invoke.specs.Cause.{cause_of}
 use Rattle.just_invoke.specs.Meaning.{meaning}
-use Rattle.just_invoke.specs.Head.{WordsLead, goes_on, place_of}
+use Rattle.just_invoke.specs.Head.{WordsLead, goes_on, absolute_path_of}
 use Rattle.just_invoke.specs.loops.Head.{BadName, IsEnd, IsStep}
 use Rattle.just_invoke.proofs.Advancing.{Stands, leads_end, misleads_end, misleads_here, stands_next}
 use Rattle.just_invoke.proofs.walk.walk.Goals as goal
@@ -31,8 +31,8 @@ returns-in-Err-clause-err c =
     let path : texts c.before-path.result.now ≡ texts (take (c.loop-at.at + 1) c.args.names.now) = ap texts c.before-path.ensures in
     IfSome_then (cause_of c.in-Err.e) c.in-Err.ensures.err
     (λ cause p. misleads_here c.args.root.now c.args.recipes.now c.args.one c.args.names.now c.loop-at.at here (omega arith) reached name nothing refl cause
-    (subst (λ b. BadName (meaning c.args.root.now c.args.recipes.now here name.now) c.args.one b (texts (take (c.loop-at.at + 1) c.args.names.now)) (place_of here name.now) cause) go
-    (subst (λ ws. BadName (meaning c.args.root.now c.args.recipes.now here name.now) c.args.one c.goes_on-go.result ws (place_of here name.now) cause) path p)))
+    (subst (λ b. BadName (meaning c.args.root.now c.args.recipes.now here name.now) c.args.one b (texts (take (c.loop-at.at + 1) c.args.names.now)) (absolute_path_of here name.now) cause) go
+    (subst (λ ws. BadName (meaning c.args.root.now c.args.recipes.now here name.now) c.args.one c.goes_on-go.result ws (absolute_path_of here name.now) cause) path p)))
 
 pub returns-clause-ok : goal.returns-clause-ok
 returns-clause-ok c =

@@ -1,7 +1,7 @@
 use Rattle.std.proofs.Common.{◌≡◌, ◌∙◌, map, ap, sym, subst, refl, rules}
 use Rattle.std.specs.List.{All, Contains}
 use Rattle.just_paths.specs.Clean.{folder_of}
-use Rattle.just_parts.specs.Syntax.{AttributesNameParameters, PriorsAreDependencies, numbers}
+use Rattle.just_parts.specs.Syntax.{AttributesNameParameters, PriorsAreDependencies, numbers_of_items}
 use Rattle.just_errors.specs.declared.error.Error.{Error}
 use Rattle.just_loader.specs.Keys.{spends_at}
 use Rattle.just_loader.specs.Loaded.{with_path}
@@ -58,7 +58,7 @@ returns-clause-takes g c =
     (places w c.args.scan.now (g.S.Syntax.answers c.args.syntax.now) c.requires.scan.1 c.args.place file c.requires.place c.index-file.ensures file.relative file.text refl refl c.in_ok-items.field-0 c.in_ok-items.ensures.read.said)) in (
       file,
       read c.args.scan.now.files.items c.args.place file c.requires.place c.index-file.ensures,
-      subst (TakesText c.args.place (takes (g.S.Syntax.answers c.args.syntax.now) file) c.args.texts.now c.read_text.new.texts) (sym (ap numbers made ∙ with_paths_numbers w folder c.in_ok-items.field-0.items)) c.in_ok-items.ensures.takes,
+      subst (TakesText c.args.place (takes (g.S.Syntax.answers c.args.syntax.now) file) c.args.texts.now c.read_text.new.texts) (sym (ap numbers_of_items made ∙ with_paths_numbers w folder c.in_ok-items.field-0.items)) c.in_ok-items.ensures.takes,
     )
 
 pub returns-clause-laws : goal.returns-clause-laws
@@ -74,5 +74,5 @@ returns-clause-laws g c =
     record {
       priors = subst (All PriorsAreDependencies) (sym made) (priors_kept w folder parsed laws.priors);
       attributes = subst (All AttributesNameParameters) (sym made) (attributes_kept w folder parsed laws.attributes);
-      constants = λ name number is here. laws.constants name number is (subst (λ ns. Contains ns number.0) (ap numbers made ∙ with_paths_numbers w folder parsed) here);
+      constants = λ name number is here. laws.constants name number is (subst (λ ns. Contains ns number.0) (ap numbers_of_items made ∙ with_paths_numbers w folder parsed) here);
     }

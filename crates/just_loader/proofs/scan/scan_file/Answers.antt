@@ -3,7 +3,7 @@ use Rattle.std.specs.List.{Contains}
 use Rattle.std.proofs.lemmas.List.{length-map}
 use Rattle.just_parts.specs.Bare.{bare_item}
 use Rattle.just_paths.specs.Clean.{folder_of}
-use Rattle.just_loader.specs.Links.{To, Fault, link_in}
+use Rattle.just_loader.specs.Links.{To, AtFault, link_in}
 use Rattle.just_loader.specs.ModuleFile.{relative}
 use Rattle.just_loader.specs.loops.Numbering.{paths_of}
 use Rattle.just_loader.specs.Reached.{World, world_of, FileLeadsTo, BreaksAt, items_said, relative_to_root}
@@ -27,8 +27,8 @@ returns-in_err-targets-clause-named g c =
     let folder : c.folder_of-folder.result.now ≡ folder_of c.args.file.now.path = c.folder_of-folder.ensures ∙ ap folder_of c.as_str-path.ensures in
     let links : map (link_in w.files w.home w.answers.enabled c.folder_of-folder.result.now) c.in_ok-ast.ast.items ≡ map (link_in w.files w.home w.answers.enabled (folder_of c.args.file.now.path)) c.in_ok-ast.ast.items =
     ap (λ x. map (link_in w.files w.home w.answers.enabled x) c.in_ok-ast.ast.items) folder in
-    lifted (λ k. Contains (map (link_in w.files w.home w.answers.enabled c.folder_of-folder.result.now) c.in_ok-ast.ast.items) (Fault k)) (BreaksAt w c.args.file.now.path)
-    (λ k h. fault_at w c.args.file.now c.requires.file.0 c.in_ok-ast.ast.items parsed k (subst (λ ls. Contains ls (Fault k)) links h))
+    lifted (λ k. Contains (map (link_in w.files w.home w.answers.enabled c.folder_of-folder.result.now) c.in_ok-ast.ast.items) (AtFault k)) (BreaksAt w c.args.file.now.path)
+    (λ k h. fault_at w c.args.file.now c.requires.file.0 c.in_ok-ast.ast.items parsed k (subst (λ ls. Contains ls (AtFault k)) links h))
     c.from_residual-in_err-targets.result (search rules)
 
 pub row-requires-clause-count : goal.row-requires-clause-count

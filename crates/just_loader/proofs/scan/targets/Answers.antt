@@ -1,7 +1,7 @@
 use Rattle.std.proofs.Common.{◌≡◌, IfErr, map, rules, subst}
 use Rattle.just_errors.specs.Causes.{Reports}
 use Rattle.just_errors.proofs.Lifts.{lifted}
-use Rattle.just_loader.specs.Links.{Fault, link_in}
+use Rattle.just_loader.specs.Links.{AtFault, link_in}
 use Rattle.just_loader.specs.loops.Links.{links_by}
 use Rattle.just_loader.specs.loops.Numbering.{paths_of}
 use Rattle.just_loader.specs.loops.Scanned.{FindsAll, HasFault}
@@ -24,5 +24,5 @@ returns-in_err-target-clause-error g c =
     let L = link_in c.args.sources.now c.args.config.now.home ((g.S.Syntax.answers c.args.syntax.now).enabled) c.args.folder.now in
     let items = c.as_slice-items.result.now in
     subst (λ all. IfErr c.from_residual.result (Reports (HasFault (map L all)))) c.as_slice-items.ensures
-    (lifted (λ cause. L c.item-item.result ≡ Fault cause) (HasFault (map L items))
+    (lifted (λ cause. L c.item-item.result ≡ AtFault cause) (HasFault (map L items))
     (fault_among L items c.loop-item.item-index c.item-item.result c.loop-item-test.true c.item-item.is) c.from_residual.result (search rules))

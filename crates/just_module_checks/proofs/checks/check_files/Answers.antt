@@ -17,7 +17,7 @@ use Rattle.just_compiled.specs.Evaluated.{AreLabels}
 use Rattle.just_module_checks.proofs.GroupGrounds.{docs_broken}
 use Rattle.just_module_checks.proofs.checks.check_files.Goals as goal
 use Rattle.just_module_contents.specs.Labels.{label_by}
-use Rattle.just_parts.specs.Evaluator.{values_of}
+use Rattle.just_parts.specs.Evaluator.{scope_values}
 use Rattle.just_parts.specs.Layers.{given_by, layers_at}
 
 pub check_module-requires-clause-named : goal.check_module-requires-clause-named
@@ -37,7 +37,7 @@ returns-in_err-labels-clause-named g c =
     let layers = layers_at (given_by g.S.Syntax.answers g.E.ConstantEvaluation.answers c.args.given.now) c.args.path.now in
     let m = contents_in c.in_ok-definitions.definitions in
     let constants = c.in_ok-checked.checked.1 in
-    let docs = BreaksDocs layers.syntax layers.evaluator m (values_of constants.scope) in
+    let docs = BreaksDocs layers.syntax layers.evaluator m (scope_values constants.scope) in
     let named : Reports docs c.in_err-labels.field-0.0 = c.in_err-labels.ensures.named in
     IfErr-weaker c.from_residual-in_err-labels.result (Reports docs) _
     (λ e h. subst (λ n. Reports (BreaksContents layers no_links no_links n) e) c.in_ok-definitions.ensures
@@ -57,6 +57,6 @@ returns-clause-checked g c =
     record {
       contents = c.in_ok-definitions.ensures;
       constants = subst (λ m. HasConstants layers m variables constants) c.in_ok-definitions.ensures c.in_ok-checked.ensures.constants;
-      docs = subst (λ m. Keeps (BreaksDocs layers.syntax layers.evaluator m (values_of constants.scope))) c.in_ok-definitions.ensures c.in_ok-labels.ensures.kept;
-      labels = subst (λ m. AreLabels layers m (values_of constants.scope) said c.in_ok-labels.labels.items) c.in_ok-definitions.ensures c.in_ok-labels.ensures.labels;
+      docs = subst (λ m. Keeps (BreaksDocs layers.syntax layers.evaluator m (scope_values constants.scope))) c.in_ok-definitions.ensures c.in_ok-labels.ensures.kept;
+      labels = subst (λ m. AreLabels layers m (scope_values constants.scope) said c.in_ok-labels.labels.items) c.in_ok-definitions.ensures c.in_ok-labels.ensures.labels;
     }

@@ -15,18 +15,18 @@ use Rattle.just_module_recipes.specs.declared.completion.Completing.{Completing}
 use Rattle.just_module_recipes.proofs.NumberedValues.{covers_still, tells_back, unvalued_forth}
 use Rattle.just_names.specs.Texts.{Text}
 use Rattle.just_names.specs.declared.number.Number.{Number}
-use Rattle.just_parts.specs.Evaluator.{Evaluator, functions_by_name, values_of}
+use Rattle.just_parts.specs.Evaluator.{Evaluator, functions_by_name, scope_values}
 use Rattle.just_parts.specs.Known.{Known, known, sources}
 use Rattle.just_parts.specs.Syntax.{SyntaxAnswers}
 use Rattle.just_recipe.specs.declared.dependency.UnresolvedDependency.{UnresolvedDependency}
 use Rattle.just_recipe.specs.declared.recipe.Recipe.{Recipe}
-use Rattle.just_recipe_names.specs.Numbered.{number_under, under}
+use Rattle.just_recipe_names.specs.Numbered.{number_under, under_parameters}
 use Rattle.just_recipe_values.specs.Among.{TellsOf}
 use Rattle.just_module_recipes.proofs.completion.complete.Goals as goal
 
 -- numbers make no difference to a value
 value_still : {S E : Type 0} (answers : SyntaxAnswers) (evaluator : Evaluator) (it : Completing S E) (number_of : Text → Option Number) (e : Expression) → value_here answers evaluator it (with_numbers number_of e) ≡ value_here answers evaluator it e
-value_still answers evaluator it number_of e = ap (evaluator.value (functions_by_name it.among.functions.now) (values_of it.among.constants.now)) (numbers_stay number_of (λ name. None) e)
+value_still answers evaluator it number_of e = ap (evaluator.value (functions_by_name it.among.functions.now) (scope_values it.among.constants.now)) (numbers_stay number_of (λ name. None) e)
 
 -- a recipe whose names and whose values are as they have to be keeps its rules
 one_kept : (value : Expression → Option (List Text)) (answers : SyntaxAnswers) (m : Known) (settings : Settings) (r : Recipe UnresolvedDependency) → Keeps (BreaksRecipeNames answers m settings r) → Keeps (Unvalued value r) → Keeps (BreaksRecipe value answers m settings r)
@@ -54,8 +54,8 @@ valued_recipe-requires g c =
     let number = number_under (get bytes_eq it.meanings.bindings.now) answers in
     let r = c.args.recipe.now in
     let made_is = ap (λ (x : Recipe UnresolvedDependency). x.attributes) c.in_ok-numbered.ensures in
-    covers_still (value_here answers evaluator it) (under number []) (under number r.parameters) (value_still answers evaluator it (number [])) r c.in_ok-numbered.numbered made_is
-    (sources it.among.assignments.now it.among.functions.now) (values_of it.among.constants.now) (number []) (λ e. refl) c.requires.covered
+    covers_still (value_here answers evaluator it) (under_parameters number []) (under_parameters number r.parameters) (value_still answers evaluator it (number [])) r c.in_ok-numbered.numbered made_is
+    (sources it.among.assignments.now it.among.functions.now) (scope_values it.among.constants.now) (number []) (λ e. refl) c.requires.covered
 
 pub returns-in_err-made-clause-named : goal.returns-in_err-made-clause-named
 returns-in_err-made-clause-named g c =
@@ -69,7 +69,7 @@ returns-in_err-made-clause-named g c =
     let made_is = ap (λ (x : Recipe UnresolvedDependency). x.attributes) c.in_ok-numbered.ensures in
     IfErr-weaker c.from_residual-in_err-made.result (Reports (TellsOf value numbered)) _
     (λ e h. reports_by (TellsOf value numbered) (TellsOne answers evaluator it r)
-    (λ x k. told (tells_back value (under number []) (under number r.parameters) (value_still answers evaluator it (number [])) r numbered made_is x k)) e h) (search rules)
+    (λ x k. told (tells_back value (under_parameters number []) (under_parameters number r.parameters) (value_still answers evaluator it (number [])) r numbered made_is x k)) e h) (search rules)
 
 pub returns-clause-kept : goal.returns-clause-kept
 returns-clause-kept g c =
@@ -81,4 +81,4 @@ returns-clause-kept g c =
     let r = c.args.recipe.now in
     let made_is = ap (λ (x : Recipe UnresolvedDependency). x.attributes) c.in_ok-numbered.ensures in
     one_kept value answers (known answers it.among.assignments.now it.among.functions.now) it.meanings.settings.now r c.in_ok-check_recipe.ensures.kept
-    (λ x b. c.in_ok-made.ensures.kept x (unvalued_forth value (under number []) (under number r.parameters) (value_still answers evaluator it (number [])) r c.in_ok-numbered.numbered made_is x b))
+    (λ x b. c.in_ok-made.ensures.kept x (unvalued_forth value (under_parameters number []) (under_parameters number r.parameters) (value_still answers evaluator it (number [])) r c.in_ok-numbered.numbered made_is x b))

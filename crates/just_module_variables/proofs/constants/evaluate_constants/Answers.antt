@@ -6,7 +6,7 @@ use Rattle.just_names.specs.Index.{texts_of_names}
 use Rattle.just_module_contents.specs.Definitions.{contents_in}
 use Rattle.just_module_contents.specs.Recipes.{lent}
 use Rattle.just_names.specs.declared.name.Name.{Name}
-use Rattle.just_parts.specs.Evaluator.{FaultsAt, bare_set, functions_by_name, values_of, wanted_by}
+use Rattle.just_parts.specs.Evaluator.{FaultsAt, bare_set, functions_by_name, scope_values, wanted_by}
 use Rattle.just_parts.specs.Known.{known, sources}
 use Rattle.just_parts.specs.Layers.{given_by, layers_at}
 use Rattle.just_parts.specs.Needs.{same_number}
@@ -65,7 +65,7 @@ returns-in_err-settings-2-clause-named g c =
     let layers = layers_at (given_by g.S.Syntax.answers g.E.ConstantEvaluation.answers c.args.given.now) c.args.path.now in
     let m = contents_in c.args.definitions.now in
     let v = c.args.variables.now in
-    IfErr-weaker c.from_residual-in_err-settings-2.result (FaultsAt (layers.evaluator.settings (functions_by_name v.functions) (values_of c.in_ok-scope.scope) (map bare_set m.sets))) _
+    IfErr-weaker c.from_residual-in_err-settings-2.result (FaultsAt (layers.evaluator.settings (functions_by_name v.functions) (scope_values c.in_ok-scope.scope) (map bare_set m.sets))) _
     (no_settings layers m v.assignments v.functions v.evaluation_order c.requires.variables c.requires.apart c.in_ok-overridden.overridden.items c.in_ok-overrides.overrides (contains same_number c.in_ok-references.references)
     (lent c.in_ok-expressions.expressions.items) c.sets_lists.result m.sets c.sets_lists.ensures refl c.in_ok-overridden.ensures (λ n. c.in_ok-overrides.ensures n ∙ ap (λ ps. last_of ps n) c.as_slice.ensures.value) c.in_ok-expressions.ensures c.in_ok-references.ensures.needed
     c.in_ok-scope.scope c.in_ok-scope.ensures.constants c.in_ok-scope.ensures.binds) (search (rules, c.in_err-settings-2.ensures.refused, c.from_residual-in_err-settings-2.ensures))

@@ -6,7 +6,7 @@ use Rattle.std.proofs.lemmas.Result.{IfErr-weaker}
 use Rattle.just_errors.specs.Causes.{Reports}
 use Rattle.just_module_contents.specs.Definitions.{contents_in}
 use Rattle.just_module_contents.specs.declared.labels.Label.{Label}
-use Rattle.just_parts.specs.Evaluator.{values_of}
+use Rattle.just_parts.specs.Evaluator.{scope_values}
 use Rattle.just_ast_expressions.specs.declared.expression.Expression.{Expression}
 use Rattle.just_module_variables.specs.Documented.{AreDocumented}
 use Rattle.just_module_variables.specs.loops.Documented.{DocFault, known_by, value_by}
@@ -20,7 +20,7 @@ documented-requires g c =
     let evaluator = g.E.ConstantEvaluation.answers c.args.given.now.evaluation.now in
     let m = contents_in c.args.definitions.now in
     let v = c.args.variables.now in
-    let values = values_of c.args.constants.now in
+    let values = scope_values c.args.constants.now in
     let labels = c.args.labels.now in
     let i = c.loop-label.label-index in
     let label = c.label-item.result in
@@ -33,7 +33,7 @@ returns-in_err-documented-clause-named g c =
     let evaluator = g.E.ConstantEvaluation.answers c.args.given.now.evaluation.now in
     let m = contents_in c.args.definitions.now in
     let v = c.args.variables.now in
-    let values = values_of c.args.constants.now in
+    let values = scope_values c.args.constants.now in
     let labels = c.args.labels.now in
     let i = c.loop-label.label-index in
     let label = c.label-item.result in
@@ -47,7 +47,7 @@ loop-label-preserved g c =
     let evaluator = g.E.ConstantEvaluation.answers c.args.given.now.evaluation.now in
     let m = contents_in c.args.definitions.now in
     let v = c.args.variables.now in
-    let values = values_of c.args.constants.now in
+    let values = scope_values c.args.constants.now in
     let labels = c.args.labels.now in
     let i = c.loop-label.label-index in
     let label = c.label-item.result in
@@ -69,7 +69,7 @@ returns-clause-kept g c =
     let evaluator = g.E.ConstantEvaluation.answers c.args.given.now.evaluation.now in
     let m = contents_in c.args.definitions.now in
     let v = c.args.variables.now in
-    let values = values_of c.args.constants.now in
+    let values = scope_values c.args.constants.now in
     let labels = c.args.labels.now in
     let i = c.loop-label.label-index in
     let P = IsSoundLabel (known_by answers v) (value_by evaluator v values) in
@@ -82,7 +82,7 @@ returns-clause-labels g c =
     let evaluator = g.E.ConstantEvaluation.answers c.args.given.now.evaluation.now in
     let m = contents_in c.args.definitions.now in
     let v = c.args.variables.now in
-    let values = values_of c.args.constants.now in
+    let values = scope_values c.args.constants.now in
     let labels = c.args.labels.now in
     let i = c.loop-label.label-index in
     documented_among answers evaluator m v c.requires.variables values labels c.loop-label.made.items

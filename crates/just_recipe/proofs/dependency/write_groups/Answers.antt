@@ -1,7 +1,7 @@
 use Rattle.std.proofs.Common.{◌≡◌, refl, sym, ap, ◌∙◌, [], ◌∷◌, ◌+◌, ◌++◌, map, take, codes, Ok}
 use Rattle.std.proofs.lemmas.Grind.{put_two}
 use Rattle.std.proofs.lemmas.List.{take_more}
-use Rattle.just_recipe.specs.Grouping.{joined}
+use Rattle.just_recipe.specs.Grouping.{concatenated}
 use Rattle.just_recipe.specs.RecipeTexts.{blanked, dependency_argument_text}
 use Rattle.just_recipe.proofs.Headings.{blanked_more, known_written}
 use Rattle.just_recipe.proofs.dependency.write_groups.Goals as goal
@@ -17,5 +17,5 @@ loop-group-preserved g c = λ plain.
     let one = c.loop-group.invariant plain in
     let two = known_written took c.loop-group.f c.write_each.new.f (Ok tt) (codes " ") dependency_argument_text slice refl c.in_ok-write_each.ensures one.plain in
     put_two took _ _ _ _ _ _ one two
-    (ap (λ xs. blanked (map dependency_argument_text (joined (take i groups))) ++ blanked (map dependency_argument_text xs)) c.as_slice.ensures
-    ∙ blanked_more (take i groups) group ∙ ap (λ gs. blanked (map dependency_argument_text (joined gs))) (sym is))
+    (ap (λ xs. blanked (map dependency_argument_text (concatenated (take i groups))) ++ blanked (map dependency_argument_text xs)) c.as_slice.ensures
+    ∙ blanked_more (take i groups) group ∙ ap (λ gs. blanked (map dependency_argument_text (concatenated gs))) (sym is))

@@ -6,7 +6,7 @@ use Rattle.std.specs.Str.{bytes_eq}
 use Rattle.just_ast_expressions.specs.declared.expression.Expression.{Expression}
 use Rattle.just_ast_references.specs.Numbers.{with_numbers}
 use Rattle.just_recipe.specs.Script.{is_script}
-use Rattle.just_recipe_names.specs.Numbered.{dependency_by, line_by, attribute_with, number_under, parameter_number, shell_lines_by, under}
+use Rattle.just_recipe_names.specs.Numbered.{dependency_by, line_by, attribute_with, number_under, parameter_number, shell_lines_by, under_parameters}
 use Rattle.just_recipe_names.proofs.numbers.numbered_parts.Goals as goal
 
 pub returns-clause-attributes : goal.returns-clause-attributes

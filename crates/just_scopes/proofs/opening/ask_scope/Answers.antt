@@ -5,7 +5,7 @@ use Rattle.just_errors.specs.declared.run_error.RunError.TheVariants.{Evaluate}
 use Rattle.just_parts.specs.Known.{sources}
 use Rattle.just_parts.specs.Needs.{IsClosed}
 use Rattle.just_run_layers.specs.Evaluation.{ContextContents, contents_of, in_set, set_of}
-use Rattle.just_run_layers.specs.Host.{Refused, Scoped}
+use Rattle.just_run_layers.specs.Host.{Refused, ScopeGiven}
 use Rattle.just_scopes.specs.Opening.{context_in, handed_of}
 use Rattle.just_scopes.proofs.Asking.{scope-asked}
 use Rattle.just_scopes.proofs.opening.ask_scope.Goals as goal
@@ -19,7 +19,7 @@ returns-in-Ok-clause-took g c =
     let copy : c.in_ok-clone.field-0 ≡ c.args.dotenv.now = search rules in
     let handed = handed_of c.args.config.now c.args.overrides.now in
     scope-asked (g.E.Evaluation.promised c.args.evaluation.now) handed c.args.justfile.now (set_of c.args.set) c.args.parent.now c.args.dotenv.now (contents_of c.context_of-context.result)
-    (c.context_of-context.ensures ∙ ap (context_in handed c.args.justfile.now) copy) _ _ (Scoped c.in-Ok.scope) _ refl c.in-Ok.ensures.answers c.in-Ok.ensures.requested (Ok c.in-Ok.scope) (λ p k. (refl, inl refl))
+    (c.context_of-context.ensures ∙ ap (context_in handed c.args.justfile.now) copy) _ _ (ScopeGiven c.in-Ok.scope) _ refl c.in-Ok.ensures.answers c.in-Ok.ensures.requested (Ok c.in-Ok.scope) (λ p k. (refl, inl refl))
 
 pub returns-clause-took : goal.returns-clause-took
 returns-clause-took g c =
