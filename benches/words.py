@@ -5,7 +5,8 @@
                                            in crates/, crates.txt or benches/: one line FILE:LINE: WORD each, status 1
     python3 benches/words.py --doubled     words that more than one file of specs/ defines, each with its files
 
-The first also says whether the program that README.md shows is the crate `caller`.
+The first also says whether the program that README.md shows is the crate `caller`, and which definition outside the folders
+specs/loops needs a word of one, which are for private functions alone.
 
 Of what stands in backticks only identifiers in the form of code are looked for: with an underscore, with a capital before
 small letters, or a part of a path (`Compiler::compile`). What is not built yet is left out: a line that has a dagger or says
@@ -107,6 +108,12 @@ def caller():
     return [] if is_same else ["README.md: its program is not crates/caller/src/main.rt"]
 
 
+def needing_loops():
+    """The files of definitions outside specs/loops that name a word of one."""
+    paths = [path for path in sorted((TOP / "crates").glob("*/specs/**/*.antt")) if "loops" not in path.parts]
+    return [f"{path.relative_to(TOP)}: needs specs/loops" for path in paths if ".specs.loops." in path.read_text()]
+
+
 def main(arguments):
     if arguments == ["--doubled"]:
         twice, count = doubled()
@@ -114,7 +121,7 @@ def main(arguments):
             print(f"{word}: {', '.join(files)}")
         print(f"{len(twice)} of {count} words")
         return 0
-    found = missing() + caller()
+    found = missing() + caller() + needing_loops()
     for line in found:
         print(line)
     return 1 if found else 0
