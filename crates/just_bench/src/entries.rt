@@ -4,7 +4,7 @@ ghost use Rattle.std.specs.Io.KnownBytes.{Appends};
 ghost use Rattle.just_bench.specs.Entries.{entry_line, entry_lines, further, group_text, groups_text, script_line, script_lines};
 ghost use Rattle.just_bench.specs.Writing.{GetsBeginning};
 
-use crate::writing::write_text;
+use crate::texts::write_text;
 use just_data::{Sequence, Text};
 use just_run_layers::Entry;
 use std::alloc::{AllocError, Global};

@@ -11,8 +11,8 @@ pub mod recorder;
 mod run;
 pub mod script;
 pub mod stop_writer;
+mod texts;
 mod words;
-mod writing;
 
 pub use entries::write_entries;
 pub use just_bench_bundle::{

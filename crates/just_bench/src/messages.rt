@@ -4,7 +4,7 @@ ghost use Rattle.just_bench.specs.Writing.{BeginsLine, GetsLine, IsLine};
 
 use crate::one_line::in_one_line;
 use crate::program_error::ProgramError;
-use crate::writing::write_text;
+use crate::texts::write_text;
 use std::alloc::{AllocError, Global};
 use std::io;
 use std::io::Write;

@@ -5,11 +5,11 @@
 mod bundle;
 mod input;
 mod leads;
-mod near;
 mod places;
+mod similar_paths;
 mod walk;
 
 pub use bundle::{BundleError, read_sources};
 pub use input::{InputError, read_text};
-pub use near::paths_like;
 pub use places::{FileLine, line_of};
+pub use similar_paths::paths_like;

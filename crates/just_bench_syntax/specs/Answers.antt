@@ -4,7 +4,7 @@ use Rattle.std.specs.Option.{option_map}
 use Rattle.std.specs.Result.{result_ok}
 use Rattle.std.specs.Str.{bytes_eq}
 use Rattle.just_names.specs.Token.{Place}
-use Rattle.just_errors.specs.declared.wording.ArgumentRange.{ArgumentRange}
+use Rattle.just_errors.specs.declared.phrases.ArgumentRange.{ArgumentRange}
 use Rattle.just_parts.specs.Bare.{ast_of_items}
 use Rattle.just_parts.specs.Items.{Ast}
 use Rattle.just_parts.specs.Syntax.{SyntaxAnswers}

@@ -8,7 +8,7 @@ ghost use Rattle.just_compiler.specs.Analyzed.{TellsAnalyzed};
 ghost use Rattle.just_compiler.specs.loops.Analyzed.{AnalyzesAt};
 ghost use Rattle.just_parts.specs.Layers.{given_by};
 
-use crate::compiling::{Gathered, compile_in_order};
+use crate::modules::{Gathered, compile_in_order};
 use just_data::{Sequence, Shared, Text};
 use just_justfile::{Justfile, Recipes};
 use just_module_assembly::{labelled, take_at};

@@ -4,8 +4,8 @@
 pub mod analyzer;
 pub mod compilation;
 pub mod compiler;
-mod compiling;
 mod groups;
+mod modules;
 
 pub use analyzer::Analyzer;
 pub use compilation::Compilation;

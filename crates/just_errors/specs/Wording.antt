@@ -5,7 +5,7 @@ use Rattle.std.specs.Char.{encode_utf8}
 use Rattle.just_names.specs.Token.{Place}
 use Rattle.just_errors.specs.declared.switch.Switch.{Switch}
 use Rattle.just_errors.specs.declared.switch.Switch.TheVariants.{Long, Short}
-use Rattle.just_errors.specs.declared.wording.ArgumentRange.{ArgumentRange}
+use Rattle.just_errors.specs.declared.phrases.ArgumentRange.{ArgumentRange}
 
 abbrev pub noun_text : ℕ → List ℕ
 noun_text count = if count == 1 then codes "argument" else codes "arguments"

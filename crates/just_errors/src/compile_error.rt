@@ -5,7 +5,7 @@ ghost use Rattle.just_names.specs.Texts.{joined};
 ghost use Rattle.just_errors.specs.Messages.{kind_name, chain_text, circle_text, reading_text, readings_text, lexeme_text};
 
 use crate::fault::Fault;
-use crate::wording::{ArgumentRange, Arguments, At};
+use crate::phrases::{ArgumentRange, Arguments, At};
 use just_data::{BorrowedText, Sequence};
 use just_names::{ListFeature, Namepath, Token};
 use std::fmt;

@@ -3,8 +3,8 @@ ghost use Rattle.std.specs.Prelude.{◌≡◌};
 ghost use Rattle.just_errors.specs.Messages.{invocation_name};
 
 use crate::fault::Fault;
+use crate::phrases::{ArgumentRange, Arguments, Listed, noun};
 use crate::switch::Switch;
-use crate::wording::{ArgumentRange, Arguments, Listed, noun};
 use just_data::{BorrowedText, Sequence, Text};
 use thiserror::Error;
 

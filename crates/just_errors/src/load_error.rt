@@ -2,7 +2,7 @@
 ghost use Rattle.std.specs.Prelude.{◌≡◌};
 ghost use Rattle.just_errors.specs.Messages.{load_name};
 
-use crate::wording::{At, Listed};
+use crate::phrases::{At, Listed};
 use just_data::{Sequence, Text};
 use just_names::{Name, Token};
 use thiserror::Error;

@@ -3,9 +3,9 @@ ghost use Rattle.std.specs.Prelude.{◌≡◌};
 ghost use Rattle.just_errors.specs.Messages.{run_name};
 
 use crate::fault::Fault;
+use crate::phrases::{OnLine, Spaced};
 use crate::signal::Signal;
 use crate::status::Status;
-use crate::wording::{OnLine, Spaced};
 use just_data::{BorrowedText, Sequence, Text};
 use std::fmt;
 

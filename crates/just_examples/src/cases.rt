@@ -4,7 +4,7 @@
 //! each line below it is a line that is wanted of its answer.
 use crate::answers::answer;
 use just_examples_format::cases::{add_differences, bundle_of};
-use just_examples_format::written::repeated;
+use just_examples_format::marks::repeated;
 use std::alloc::{AllocError, Global};
 
 // Adds what differs between the answer to a question and what is wanted of it.

@@ -2,7 +2,7 @@
 use crate::bundles::answer_file;
 use crate::copies::answer_copy;
 use crate::recorders::answer_recorder;
-use just_examples_format::written::unmarked;
+use just_examples_format::marks::unmarked;
 use std::alloc::{AllocError, Global};
 
 /// Answers a question of a kind, a line for each thing that a case may ask of it, or none where it is none of these questions.

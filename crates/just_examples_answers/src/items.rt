@@ -1,11 +1,11 @@
 //! What a text says, item by item.
-use crate::readings::add_readings;
+use crate::item_lines::add_readings;
 use just_bench::parse;
 use just_bench_syntax::PlainSyntax;
 use just_data::Text;
 use just_examples_format::faults::unless_fault;
 use just_examples_format::lists::before;
-use just_examples_format::written::unmarked;
+use just_examples_format::marks::unmarked;
 use just_parts::layers::{Item, Keyword, StringLiteral, Syntax};
 use std::alloc::{AllocError, Global};
 

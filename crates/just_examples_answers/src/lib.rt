@@ -4,18 +4,18 @@
 
 mod answers;
 mod bundles;
-pub mod compiled;
+pub mod calls;
+pub mod compilations;
 mod copies;
 mod entries;
-pub mod evaluated;
-pub mod held;
+pub mod evaluations;
+mod item_lines;
 mod items;
-pub mod listed;
-mod readings;
+pub mod listings;
 mod recorders;
 pub mod requests;
 pub mod runs;
-mod shown;
+mod texts;
 pub mod traits;
 pub mod variables;
 pub mod walks;

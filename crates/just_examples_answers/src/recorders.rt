@@ -2,7 +2,7 @@
 use just_bench::{Recorder, Script};
 use just_data::{Sequence, Text};
 use just_examples_format::lists::before;
-use just_examples_format::written::unmarked;
+use just_examples_format::marks::unmarked;
 use just_parts::layers::{Fault, Interpreter, Refusal, Signal, Status};
 use just_paths::Modulepath;
 use just_run_layers::{

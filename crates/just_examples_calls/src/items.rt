@@ -2,8 +2,8 @@
 use crate::recipes::first_recipe;
 use just_bench_reading::parse;
 use just_bench_syntax::PlainSyntax;
-use just_examples_format::asked::read_asked;
 use just_examples_format::faults::unless_fault;
+use just_examples_format::questions::read_asked;
 use just_parts::UnresolvedRecipe;
 use just_parts::layers::{Edge, Item, Parameter};
 use just_paths::Modulepath;

@@ -27,7 +27,7 @@ use crate::resolver::answer_resolver;
 use crate::sources::answer_source;
 use crate::syntax::answer_syntax;
 use crate::tables::{answer_table, answer_table_call};
-use just_examples_format::written::unmarked;
+use just_examples_format::marks::unmarked;
 use std::alloc::{AllocError, Global};
 
 // Answers what a public call of a type gives for a text, or none where it is none of these calls.

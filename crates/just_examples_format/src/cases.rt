@@ -1,5 +1,5 @@
 //! Cases as text: a name, a bundle, and lines that are wanted of answers.
-use crate::written::meant;
+use crate::marks::meant;
 use std::alloc::{AllocError, Global};
 
 /// The name of a case, its first line.

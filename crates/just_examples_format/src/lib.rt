@@ -1,15 +1,15 @@
 //! The lines of worked examples: how a case is written, and what tells of a fault and of the modules of a compilation.
 #![tactic(auto)]
 
-pub mod asked;
 pub mod cases;
 pub mod faults;
-mod given;
 mod links;
 pub mod lists;
+pub mod marks;
 mod modules;
-mod sayings;
-pub mod written;
+mod overrides;
+pub mod questions;
+mod recipe_lines;
 
-pub use given::add_given;
 pub use modules::{add_loaded, add_modules};
+pub use overrides::add_given;

@@ -1,7 +1,7 @@
 //! The lines that tell what a compilation has.
 use crate::links::{add_aliases, add_dependencies, add_disabled};
 use crate::lists::{add_list, next};
-use crate::sayings::{add_needed, add_sayings};
+use crate::recipe_lines::{add_needed, add_sayings};
 use just_data::Text;
 use just_justfile::{Justfile, RecipeKey, Recipes};
 use just_parts::Recipe;

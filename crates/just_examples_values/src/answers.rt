@@ -4,15 +4,15 @@ ghost use Rattle.just_run_layers.specs.Covering.{HasEvaluationOrder, module_of};
 ghost use Rattle.just_examples_values.specs.Bound.{IsInOrder, TellApart};
 ghost use Rattle.just_examples_values.specs.loops.Bound.{BindsAll};
 
+use crate::arguments::{Handed, read_handed};
 use crate::bodies::{add_lines, add_values};
 use crate::environments::add_environment;
-use crate::handed::{Handed, read_handed};
 use crate::parameters::{add_held, bound};
 use crate::place::Place;
 use crate::variables::{add_variables, all_values};
 use just_data::{Chain, Text};
 use just_errors::Refusal;
-use just_examples_format::asked::Asked;
+use just_examples_format::questions::Asked;
 use just_justfile::{Justfile, Recipes};
 use just_parts::Recipe;
 use just_parts::layers::{Config, Number, Syntax};

@@ -4,9 +4,9 @@
 #![tactic(auto)]
 
 mod answers;
+mod arguments;
 mod bodies;
 mod environments;
-mod handed;
 mod parameters;
 mod place;
 mod variables;

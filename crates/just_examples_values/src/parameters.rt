@@ -2,7 +2,7 @@
 ghost use Rattle.std.specs.Prelude.{IfOk};
 ghost use Rattle.just_examples_values.specs.loops.Bound.{BindsAll};
 
-use crate::handed::groups_of;
+use crate::arguments::groups_of;
 use crate::place::Place;
 use crate::variables::add_scope;
 use just_errors::Refusal;

@@ -12,7 +12,7 @@ use Rattle.just_graph.specs.Graph.{targets, HasEdge, IsGraph}
 use Rattle.just_graph.specs.Found.{is_seen, unseen}
 use Rattle.just_graph_order.specs.loops.Finished.{Finishing}
 use Rattle.just_graph_order.specs.loops.Path.{nodes, counts}
-use Rattle.just_graph_order.specs.declared.finishing.Frame.{Frame}
+use Rattle.just_graph_order.specs.declared.finish_order.Frame.{Frame}
 use Rattle.just_graph.proofs.Targets.{target_inside}
 use Rattle.just_graph_order.proofs.Inside.{marked_inside}
 use Rattle.just_graph.proofs.Pushes.{push_new, each_last}

@@ -6,7 +6,7 @@
 #![tactic(auto)]
 
 mod circles;
-mod finishing;
-mod through;
+mod finish_order;
+mod solid_order;
 
-pub use through::order_through;
+pub use solid_order::order_through;

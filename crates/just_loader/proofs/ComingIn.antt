@@ -29,8 +29,8 @@ use Rattle.just_loader.specs.loops.Loading.{AreNodes, AreUnfolded, CameInSoFar, 
 use Rattle.just_loader.specs.loops.Numbering.{IsNamed}
 use Rattle.just_loader.specs.Reached.{World}
 use Rattle.just_loader.specs.loops.Scanned.{EntersName, IsScan, paths_in}
-use Rattle.just_loader.specs.declared.scanned.Scan.{Scan}
-use Rattle.just_loader.specs.declared.scanned.ScannedFile.{ScannedFile}
+use Rattle.just_loader.specs.declared.scan_result.Scan.{Scan}
+use Rattle.just_loader.specs.declared.scan_result.ScannedFile.{ScannedFile}
 use Rattle.just_loader.proofs.FileKeys.{least_mapped, root_at, to_steps}
 use Rattle.just_loader.proofs.FileRows.{known, named_here}
 use Rattle.just_loader.proofs.Numberings.{get_cases, got, map_get, none_some, read_at}

@@ -27,8 +27,8 @@ use Rattle.just_loader.specs.Links.{Link, Unlinked, To, AtFault, edge_link}
 use Rattle.just_loader.specs.Reached.{World, IsReachedFile, from_root, from_file, items_of_file, link, FileLeadsTo}
 use Rattle.just_errors.specs.Causes.{LeadsBack}
 use Rattle.just_loader.specs.loops.Scanned.{IsScan, paths_in}
-use Rattle.just_loader.specs.declared.scanned.Scan.{Scan}
-use Rattle.just_loader.specs.declared.scanned.ScannedFile.{ScannedFile}
+use Rattle.just_loader.specs.declared.scan_result.Scan.{Scan}
+use Rattle.just_loader.specs.declared.scan_result.ScannedFile.{ScannedFile}
 use Rattle.just_loader.proofs.FileRows.{at, said, steps_here}
 use Rattle.just_loader.proofs.Numberings.{got, read_at, some_same}
 

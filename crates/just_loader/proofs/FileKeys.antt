@@ -17,8 +17,8 @@ use Rattle.just_loader.specs.loops.Numbering.{IsNamed}
 use Rattle.just_loader.specs.loops.Placed.{file_at, name_at, text_step}
 use Rattle.just_loader.specs.Reached.{World}
 use Rattle.just_loader.specs.loops.Scanned.{IsScan, paths_in}
-use Rattle.just_loader.specs.declared.scanned.Scan.{Scan}
-use Rattle.just_loader.specs.declared.scanned.ScannedFile.{ScannedFile}
+use Rattle.just_loader.specs.declared.scan_result.Scan.{Scan}
+use Rattle.just_loader.specs.declared.scan_result.ScannedFile.{ScannedFile}
 use Rattle.just_loader.proofs.FileRows.{IsKnown, at, known_entered, named_here, steps_here}
 use Rattle.just_loader.proofs.Numberings.{got, read_at}
 

@@ -22,8 +22,8 @@ use Rattle.just_loader.specs.loops.Placed.{file_at, name_at, text_step}
 use Rattle.just_loader.specs.loops.Numbering.{IsFirstAt, IsNamed, texts_of}
 use Rattle.just_loader.specs.Reached.{World, link}
 use Rattle.just_loader.specs.loops.Scanned.{IsPlaceOf, ArePlacesOf, IsStepTo, IsStepOf, AreSteps, EntersName, IsScan, IsScanned, paths_in}
-use Rattle.just_loader.specs.declared.scanned.Scan.{Scan}
-use Rattle.just_loader.specs.declared.scanned.ScannedFile.{ScannedFile}
+use Rattle.just_loader.specs.declared.scan_result.Scan.{Scan}
+use Rattle.just_loader.specs.declared.scan_result.ScannedFile.{ScannedFile}
 use Rattle.just_loader.proofs.Numberings.{map_get, read_at}
 use Rattle.just_loader.proofs.WholeScans.{one_target, row_at}
 

@@ -13,8 +13,8 @@ use Rattle.just_loader.specs.loops.Reading.{ShareNoNumbers}
 use Rattle.just_loader.specs.loops.Placed.{file_at}
 use Rattle.just_loader.specs.loops.Parsed.{AreKeyed, AreHeld, text_key}
 use Rattle.just_loader.specs.loops.Scanned.{paths_in}
-use Rattle.just_loader.specs.declared.scanned.Scan.{Scan}
-use Rattle.just_loader.specs.declared.scanned.ScannedFile.{ScannedFile}
+use Rattle.just_loader.specs.declared.scan_result.Scan.{Scan}
+use Rattle.just_loader.specs.declared.scan_result.ScannedFile.{ScannedFile}
 use Rattle.just_loader.proofs.Numberings.{got, map_get, get_more, get_last, some_same, none_some}
 
 -- the nodes from a place on are held, and what is left are those before it

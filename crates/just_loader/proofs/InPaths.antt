@@ -25,7 +25,7 @@ use Rattle.just_loader.specs.loops.Parsed.{AreHeld, relative_at}
 use Rattle.just_loader.specs.Reached.{World, relative_to_root}
 use Rattle.just_loader.specs.loops.Reading.{ShareNoNumbers}
 use Rattle.just_loader.specs.loops.Scanned.{IsScan}
-use Rattle.just_loader.specs.declared.scanned.Scan.{Scan}
+use Rattle.just_loader.specs.declared.scan_result.Scan.{Scan}
 use Rattle.just_loader.proofs.FileKeys.{file_key, from_key, node_reached, root_at, root_inside, same_keys, step_inside}
 use Rattle.just_loader.proofs.FileRows.{at, steps_here}
 use Rattle.just_loader.proofs.HeldAsts.{are_told_apart, held_each}

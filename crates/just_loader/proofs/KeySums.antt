@@ -14,7 +14,7 @@ use Rattle.just_loader.specs.loops.Placed.{file_at}
 use Rattle.just_loader.specs.Reached.{World, IsReachedFile, FileLeadsTo, BreaksInScan}
 use Rattle.just_loader.specs.loops.Scanned.{IsScan}
 use Rattle.just_loader.specs.Sources.{text_at}
-use Rattle.just_loader.specs.declared.scanned.Scan.{Scan}
+use Rattle.just_loader.specs.declared.scan_result.Scan.{Scan}
 use Rattle.just_loader.proofs.ComingIn.{get_take}
 use Rattle.just_loader.proofs.FileKeys.{file_key, from_key, same_keys, stands, to_key}
 use Rattle.just_loader.proofs.Numberings.{got, placed, get_map, map_get}

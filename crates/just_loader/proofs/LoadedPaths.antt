@@ -12,8 +12,8 @@ use Rattle.just_loader.specs.loops.Placed.{at_first_places, file_at}
 use Rattle.just_loader.specs.loops.Parsed.{relative_at}
 use Rattle.just_loader.specs.Reached.{World, relative_to_root}
 use Rattle.just_loader.specs.loops.Scanned.{IsScan, paths_in}
-use Rattle.just_loader.specs.declared.scanned.Scan.{Scan}
-use Rattle.just_loader.specs.declared.scanned.ScannedFile.{ScannedFile}
+use Rattle.just_loader.specs.declared.scan_result.Scan.{Scan}
+use Rattle.just_loader.specs.declared.scan_result.ScannedFile.{ScannedFile}
 use Rattle.just_loader.proofs.Numberings.{map_get, read_at}
 
 in_or_not : (x : ℕ) (xs : List ℕ) → In x xs ⊎ (In x xs → ⊥)

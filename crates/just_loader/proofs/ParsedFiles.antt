@@ -20,8 +20,8 @@ use Rattle.just_loader.specs.loops.Placed.{file_at}
 use Rattle.just_loader.specs.loops.Loading.{IsScanBy, StopsAt}
 use Rattle.just_loader.specs.Reached.{World, ast_of, items_said, link, relative_to_root}
 use Rattle.just_loader.specs.loops.Scanned.{ArePlacesOf, IsScanned, paths_in}
-use Rattle.just_loader.specs.declared.scanned.Scan.{Scan}
-use Rattle.just_loader.specs.declared.scanned.ScannedFile.{ScannedFile}
+use Rattle.just_loader.specs.declared.scan_result.Scan.{Scan}
+use Rattle.just_loader.specs.declared.scan_result.ScannedFile.{ScannedFile}
 use Rattle.just_loader.proofs.ComingIn.{path_is}
 use Rattle.just_loader.proofs.Numberings.{read_at, some_same}
 use Rattle.just_loader.proofs.Scans.{links_bare}

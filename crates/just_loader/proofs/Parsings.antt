@@ -17,7 +17,7 @@ use Rattle.just_loader.specs.loops.Placed.{file_at, file_node}
 use Rattle.just_loader.specs.loops.Loading.{AreNodes, AreParsedSoFar, AreSources, IsSaid, IsScanBy, Stops, StopsAt, spent_by}
 use Rattle.just_loader.specs.Reached.{World}
 use Rattle.just_loader.specs.loops.Scanned.{IsScan}
-use Rattle.just_loader.specs.declared.scanned.Scan.{Scan}
+use Rattle.just_loader.specs.declared.scan_result.Scan.{Scan}
 use Rattle.just_loader.proofs.Numberings.{get_cases, none_some}
 
 -- an element that is read

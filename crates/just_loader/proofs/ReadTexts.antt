@@ -7,8 +7,8 @@ use Rattle.just_graph.proofs.Members.{In, is_in}
 use Rattle.just_parts.specs.Syntax.{SyntaxAnswers, AreRising, numbers_of_items}
 use Rattle.just_parts.specs.Items.{Ast}
 use Rattle.just_loader.specs.loops.Reading.{AreApartBelow, AreRead, AreReadOf, GoesOn, IsRead, TakesText, is_read, spent_on, takes, was_read}
-use Rattle.just_loader.specs.declared.reading.ReadTexts.{ReadTexts}
-use Rattle.just_loader.specs.declared.scanned.ScannedFile.{ScannedFile}
+use Rattle.just_loader.specs.declared.texts.ReadTexts.{ReadTexts}
+use Rattle.just_loader.specs.declared.scan_result.ScannedFile.{ScannedFile}
 use Rattle.just_loader.proofs.Numberings.{get_cases, none_some, some_same}
 
 -- numbers that rise

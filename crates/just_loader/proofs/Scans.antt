@@ -17,7 +17,7 @@ use Rattle.just_loader.specs.Reached.{World, relative_to_root, items_of_file, it
 use Rattle.just_errors.specs.Causes.{Cause, Broken, Reports}
 use Rattle.just_loader.specs.loops.Scanned.{ArePlacesOf, IsStepTo, IsStepOf, AreSteps, IsScanned}
 use Rattle.just_loader.specs.Sources.{Files, text_at}
-use Rattle.just_loader.specs.declared.scanned.ScannedFile.{ScannedFile}
+use Rattle.just_loader.specs.declared.scan_result.ScannedFile.{ScannedFile}
 use Rattle.just_loader.specs.declared.sources.SourceFile.{SourceFile}
 use Rattle.just_parts.proofs.Edges.{bare_twice, edge_bare}
 use Rattle.just_loader.proofs.Numberings.{got, placed, get_map, map_get}

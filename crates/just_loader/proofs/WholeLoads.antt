@@ -24,8 +24,8 @@ use Rattle.just_loader.specs.Reached.{World, IsReachedFile, BreaksInScan}
 use Rattle.just_loader.specs.loops.Scanned.{IsScan}
 use Rattle.just_loader.specs.Sources.{text_at}
 use Rattle.just_loader.specs.declared.loaded.Loaded.{Loaded}
-use Rattle.just_loader.specs.declared.scanned.Scan.{Scan}
-use Rattle.just_loader.specs.declared.scanned.ScannedFile.{ScannedFile}
+use Rattle.just_loader.specs.declared.scan_result.Scan.{Scan}
+use Rattle.just_loader.specs.declared.scan_result.ScannedFile.{ScannedFile}
 use Rattle.just_loader.proofs.KeySums.{node_inside, one_place, many, files_kept}
 use Rattle.just_loader.proofs.Numberings.{get_map, read_at}
 

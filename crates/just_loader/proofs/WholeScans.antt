@@ -27,8 +27,8 @@ use Rattle.just_errors.specs.Causes.{Cause}
 use Rattle.just_loader.specs.loops.Scanned.{IsPlaceOf, ArePlacesOf, IsStepTo, IsStepOf, AreSteps, IsScanned, AreScanned, IsScan, paths_in, Grows, Extends}
 use Rattle.just_loader.specs.Sources.{Files}
 use Rattle.just_loader.specs.declared.index.Found.{Found}
-use Rattle.just_loader.specs.declared.scanned.Scan.{Scan}
-use Rattle.just_loader.specs.declared.scanned.ScannedFile.{ScannedFile}
+use Rattle.just_loader.specs.declared.scan_result.Scan.{Scan}
+use Rattle.just_loader.specs.declared.scan_result.ScannedFile.{ScannedFile}
 use Rattle.just_loader.specs.declared.sources.SourceFile.{SourceFile}
 use Rattle.just_loader.proofs.Numberings.{get_cases, get_map, get_more, got, map_get, none_some, placed, read_at, some_same}
 use Rattle.just_loader.proofs.Scanning.{places_more, steps_more}

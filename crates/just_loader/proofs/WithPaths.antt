@@ -13,8 +13,8 @@ use Rattle.just_loader.specs.loops.Loading.{HavePaths}
 use Rattle.just_loader.specs.loops.Placed.{file_at}
 use Rattle.just_loader.specs.Reached.{World, link}
 use Rattle.just_loader.specs.loops.Scanned.{ArePlacesOf, IsPlaceOf, paths_in}
-use Rattle.just_loader.specs.declared.scanned.Scan.{Scan}
-use Rattle.just_loader.specs.declared.scanned.ScannedFile.{ScannedFile}
+use Rattle.just_loader.specs.declared.scan_result.Scan.{Scan}
+use Rattle.just_loader.specs.declared.scan_result.ScannedFile.{ScannedFile}
 
 -- the path at the place of a link
 shown : (scan : Scan) (l : Link) (t : Option ℕ) → IsPlaceOf (paths_in scan.files.items) l t → option_map (file_at scan) t ≡ path_of_link l

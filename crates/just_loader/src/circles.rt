@@ -8,7 +8,7 @@ ghost use Rattle.just_loader.specs.Reached.{World, IsReachedFile};
 ghost use Rattle.just_errors.specs.Causes.{Reports};
 ghost use Rattle.just_loader.specs.loops.Scanned.{IsScan, paths_in};
 
-use crate::scanned::Scan;
+use crate::scan_result::Scan;
 use just_data::Text;
 use just_graph::order;
 use just_graph::unfolding::edges;

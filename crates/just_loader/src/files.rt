@@ -20,10 +20,10 @@ ghost use Rattle.just_loader.specs.loops.Scanned.{ArePlacesOf, EntersName, IsSca
 
 use crate::circles::check_circles;
 use crate::loaded::Loaded;
-use crate::reading::{ReadTexts, read_text, unless_exhausted};
 use crate::scan::scan;
-use crate::scanned::Scan;
+use crate::scan_result::Scan;
 use crate::sources::Sources;
+use crate::texts::{ReadTexts, read_text, unless_exhausted};
 use just_data::{Sequence, Text};
 use just_graph::unfolding::{Step, Unfolded, unfold};
 use just_parts::Source;

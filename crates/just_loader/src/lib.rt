@@ -7,10 +7,10 @@ mod index;
 mod links;
 pub mod loaded;
 mod module_file;
-mod reading;
 mod scan;
-mod scanned;
+mod scan_result;
 pub mod sources;
+mod texts;
 
 pub use files::load;
 pub use links::link;

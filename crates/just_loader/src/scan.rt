@@ -17,9 +17,9 @@ ghost use Rattle.just_loader.specs.loops.Scanned.{ArePlacesIn, IsPlaceOf, AreSte
 use crate::index::{Found, NameNumbers};
 use crate::links::link;
 use crate::module_file::relative_path;
-use crate::reading::{ReadTexts, unless_exhausted};
-use crate::scanned::{Scan, ScannedFile};
+use crate::scan_result::{Scan, ScannedFile};
 use crate::sources::{SourceFile, Sources};
+use crate::texts::{ReadTexts, unless_exhausted};
 use just_data::BorrowedText;
 use just_graph::unfolding::Step;
 use just_parts::Source;

@@ -1,7 +1,7 @@
 //! What the files of a module say of it.
 
-use crate::enabled::is_enabled;
 use crate::labels::doc_of;
+use crate::platforms::is_enabled;
 use just_data::BorrowedText;
 use just_parts::UnresolvedRecipe;
 use just_parts::layers::{

@@ -5,7 +5,7 @@ ghost use Rattle.std.specs.Option.{option_copied};
 ghost use Rattle.just_module_contents.specs.Labels.{doc_in, doc_of, group_in, groups_of, is_private, label_by, label_said};
 ghost use Rattle.just_module_contents.specs.Said.{said};
 
-use crate::enabled::is_enabled;
+use crate::platforms::is_enabled;
 use just_data::{Exact, Sequence, Text};
 use just_parts::layers::{
     Attribute, Expression, Item, Name, NamedAttribute, StringLiteral, Syntax,

@@ -3,14 +3,14 @@
 #![tactic(auto)]
 
 pub mod definitions;
-mod enabled;
 mod labels;
 mod notes;
+mod platforms;
 pub mod precedence;
 pub mod redefinition;
 mod values;
 
-pub use enabled::is_enabled;
 pub use labels::{Label, doc_of, push_labels};
 pub use notes::Notes;
+pub use platforms::is_enabled;
 pub use values::text_of_value;

@@ -4,7 +4,7 @@ ghost use Rattle.just_table.specs.Entries.{put_all};
 ghost use Rattle.just_module_contents.specs.Notes.{absent_by, no_notes, noted};
 ghost use Rattle.just_module_contents.specs.Said.{said};
 
-use crate::enabled::is_enabled;
+use crate::platforms::is_enabled;
 use just_data::{BorrowedText, Sequence};
 use just_parts::layers::{Ast, Item, Syntax, UnstableFeature, Warning};
 use just_table::Table;

@@ -3,7 +3,7 @@ use Rattle.std.proofs.Common.{◌≡◌, ◌∙◌, ℕ, ◌||◌, Bool, List, m
 use Rattle.std.specs.List.{Contains}
 use Rattle.std.specs.Option.{IsSome, is_some, option_map}
 use Rattle.just_errors.specs.Causes.{Cause}
-use Rattle.just_errors.specs.declared.wording.ArgumentRange.{ArgumentRange}
+use Rattle.just_errors.specs.declared.phrases.ArgumentRange.{ArgumentRange}
 use Rattle.just_names.specs.Texts.{Text}
 use Rattle.just_names.specs.Name.{text_of_name}
 use Rattle.just_parts.specs.Known.{Known, defines, hides, known, range_of, range_with}

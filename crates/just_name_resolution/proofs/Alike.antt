@@ -12,7 +12,7 @@ use Rattle.std.proofs.lemmas.List.{get_or-map, length-map}
 use Rattle.std.proofs.lemmas.Option.{get_or_from_slice_get}
 use Rattle.just_errors.specs.Causes.{Cause, Broken}
 use Rattle.just_errors.specs.declared.compile_error.CompileErrorKind.TheVariants as kind
-use Rattle.just_errors.specs.declared.wording.ArgumentRange.{ArgumentRange}
+use Rattle.just_errors.specs.declared.phrases.ArgumentRange.{ArgumentRange}
 use Rattle.just_graph.proofs.Index.{some_same, some_at}
 use Rattle.just_names.specs.Texts.{Text}
 use Rattle.just_names.specs.Name.{text_of_name}

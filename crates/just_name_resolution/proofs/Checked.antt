@@ -7,7 +7,7 @@ use Rattle.std.proofs.lemmas.List.Elements.{Contains-append_left, Contains-appen
 use Rattle.just_errors.specs.Causes.{Cause, Broken, Keeps}
 use Rattle.just_errors.specs.Wording.{takes}
 use Rattle.just_errors.specs.declared.compile_error.CompileErrorKind.TheVariants as kind
-use Rattle.just_errors.specs.declared.wording.ArgumentRange.{ArgumentRange}
+use Rattle.just_errors.specs.declared.phrases.ArgumentRange.{ArgumentRange}
 use Rattle.just_names.specs.Texts.{Text}
 use Rattle.just_names.specs.Name.{text_of_name}
 use Rattle.just_names.specs.Token.{Place}

@@ -2,7 +2,7 @@
 #![tactic(auto)]
 
 mod dependency;
-mod grouping;
+mod groups;
 mod recipe;
 mod recipe_signature;
 mod texts;

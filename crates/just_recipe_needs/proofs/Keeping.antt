@@ -16,7 +16,7 @@ use Rattle.just_recipe_needs.specs.Collected.{IsStart}
 use Rattle.just_recipe_needs.specs.Known.{AreRight, IsRight, same_names}
 use Rattle.just_recipe_needs.specs.Needed.{AreNumbersOf}
 use Rattle.just_recipe_needs.specs.declared.collection.Sources.{Sources}
-use Rattle.just_recipe_needs.specs.declared.direct.DirectNames.{DirectNames}
+use Rattle.just_recipe_needs.specs.declared.direct_names.DirectNames.{DirectNames}
 
 both : (a b : Bool) → (a && b) ≡ true → (a ≡ true) × (b ≡ true)
 both true b e = (refl, e)

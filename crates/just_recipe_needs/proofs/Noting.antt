@@ -20,7 +20,7 @@ use Rattle.just_name_resolution.proofs.Looking.{added, kept, not_in_none}
 use Rattle.just_names.specs.Texts.{Text}
 use Rattle.just_parts.specs.Known.{Known}
 use Rattle.just_recipe_needs.specs.loops.Direct.{GainsNames, Notes, NotesCall, function_of, functions_of, variable_of, variables_of}
-use Rattle.just_recipe_needs.specs.declared.direct.DirectNames.{DirectNames}
+use Rattle.just_recipe_needs.specs.declared.direct_names.DirectNames.{DirectNames}
 use Rattle.just_table.specs.Entries.{find}
 
 -- a list of one element has no other

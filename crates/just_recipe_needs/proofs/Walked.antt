@@ -24,7 +24,7 @@ use Rattle.just_recipe_needs.proofs.Noting.{the_one}
 use Rattle.just_recipe_needs.specs.Collected.{IsStart}
 use Rattle.just_recipe_needs.specs.loops.Direct.{AreDirect, AreNames, GainsNames, Notes, function_of, functions_in, functions_of, variable_of, variables_in, variables_of}
 use Rattle.just_recipe_needs.specs.Needed.{AreNumbersOf, HasReferences, IsReadInScopes}
-use Rattle.just_recipe_needs.specs.declared.direct.DirectNames.{DirectNames}
+use Rattle.just_recipe_needs.specs.declared.direct_names.DirectNames.{DirectNames}
 use Rattle.just_table.specs.Entries.{find}
 
 or_turned : (a b c : Bool) → (a || (b || c)) ≡ (b || (a || c))

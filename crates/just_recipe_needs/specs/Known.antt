@@ -7,7 +7,7 @@ use Rattle.just_name_resolution.specs.Lent.{tables_in}
 use Rattle.just_names.specs.declared.number.Number.{Number}
 use Rattle.just_parts.specs.Needs.{has_number}
 use Rattle.just_recipe_needs.specs.declared.collection.Sources.{Sources}
-use Rattle.just_recipe_needs.specs.declared.direct.DirectNames.{DirectNames}
+use Rattle.just_recipe_needs.specs.declared.direct_names.DirectNames.{DirectNames}
 use Rattle.just_recipe_needs.specs.Collected.{IsStart}
 use Rattle.just_recipe_needs.specs.Needed.{AreNumbersOf}
 

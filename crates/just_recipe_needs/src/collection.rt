@@ -10,7 +10,7 @@ ghost use Rattle.just_parts.specs.Needs.{has_number, same_number};
 ghost use Rattle.just_recipe_needs.specs.Collected.{Collects, CollectsValue, ComesFrom, IsItself, IsReadInBody};
 ghost use Rattle.just_recipe_needs.specs.Known.{AreRight};
 
-use crate::direct::DirectNames;
+use crate::direct_names::DirectNames;
 use just_data::{BorrowedText, Sequence, Text};
 use just_name_resolution::{Tables, collect_references};
 use just_parts::layers::{Assignment, Number};

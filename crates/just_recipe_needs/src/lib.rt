@@ -2,7 +2,7 @@
 #![tactic(auto)]
 
 mod collection;
-mod direct;
+mod direct_names;
 mod references;
 
 pub use collection::Sources;

@@ -10,7 +10,7 @@ ghost use Rattle.just_module_contents.specs.Definitions.{recipes_in};
 ghost use Rattle.just_recipe_needs.specs.Needed.{HasReferences, HaveReferences, NeedsUnder};
 
 use crate::collection::{Sources, needed_numbers};
-use crate::direct::{DirectNames, direct_names};
+use crate::direct_names::{DirectNames, direct_names};
 use just_data::{Sequence, Shared, Text};
 use just_module_contents::definitions::Definitions;
 use just_name_resolution::Tables;

@@ -29,7 +29,7 @@ use Rattle.just_run_layers.specs.declared.environment.EnvironmentPair.{Environme
 use Rattle.just_run_layers.specs.declared.host.Entry.TheVariants as entry
 use Rattle.just_scopes.specs.Need.{NumberSets, asked}
 use Rattle.just_scopes.specs.Preorder.{Placed}
-use Rattle.just_scopes.specs.declared.opening.OpenedModule.{OpenedModule}
+use Rattle.just_scopes.specs.declared.open_module.OpenedModule.{OpenedModule}
 
 -- what a run hands to the layers of each module beside what the module has: what its caller asks for, and the values that override variables
 pub record Handed : Type 0 where

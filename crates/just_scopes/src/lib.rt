@@ -5,9 +5,9 @@ mod context;
 pub mod laws;
 mod modules;
 mod needs;
-mod opening;
+mod open_module;
 mod scopes;
 mod uses;
 
-pub use opening::{OpenedModule, folder_for, open_lazily, open_modules};
+pub use open_module::{OpenedModule, folder_for, open_lazily, open_modules};
 pub use scopes::{opened_at, scope_at, scopes_of};

@@ -7,7 +7,7 @@ ghost use Rattle.just_scopes.specs.Opening.{handed_of, opened_at, opened_of, sce
 ghost use Rattle.just_scopes.specs.loops.Scoped.{AreModulesOf};
 
 use crate::context::context_of;
-use crate::opening::OpenedModule;
+use crate::open_module::OpenedModule;
 use just_data::{Chain, Text};
 use just_execution::{ModuleScope, Scopes};
 use just_parts::layers::{Config, Number, Scope, Syntax};

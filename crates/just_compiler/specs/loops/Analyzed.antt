@@ -1,7 +1,7 @@
 -- What private functions say beside `Analyzed.antt`.
 use Rattle.std.specs.Prelude.{List}
 use Rattle.std.specs.HashMap.{HashMap, get}
-use Rattle.just_compiler.specs.declared.compiling.Gathered.{Gathered}
+use Rattle.just_compiler.specs.declared.modules.Gathered.{Gathered}
 use Rattle.just_parts.specs.Asts.{AstKey, same_ast_key}
 use Rattle.just_names.specs.Texts.{Text}
 use Rattle.just_parts.specs.Items.{Ast}

@@ -25,7 +25,7 @@ use Rattle.just_module_headers.specs.Analyzable.{assignment_numbers}
 use Rattle.just_module_headers.specs.Files.{asts_in, keys_in}
 use Rattle.just_compiled.specs.Labelled.{by_name, notes_in, slot, with_labels}
 use Rattle.just_compiled.specs.Justfiles.{Made}
-use Rattle.just_compiler.specs.declared.compiling.Gathered.{Gathered}
+use Rattle.just_compiler.specs.declared.modules.Gathered.{Gathered}
 use Rattle.just_module_assembly.specs.loops.Noted.{notes_of_place}
 use Rattle.just_compiled.specs.Variables.{HasTables, HasVariables}
 use Rattle.just_module_contents.specs.Groups.{BreaksContents, KeepsContents, Links}

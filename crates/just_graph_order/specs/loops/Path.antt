@@ -1,6 +1,6 @@
 -- The path of a search, as two lists: its nodes, and how many edges of each are passed.
 use Rattle.std.specs.Prelude.{ℕ, List, map}
-use Rattle.just_graph_order.specs.declared.finishing.Frame.{Frame}
+use Rattle.just_graph_order.specs.declared.finish_order.Frame.{Frame}
 
 abbrev pub nodes : List Frame → List ℕ
 nodes frames = map (λ f. f.node) frames

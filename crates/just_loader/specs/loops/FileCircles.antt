@@ -3,7 +3,7 @@ use Rattle.std.specs.Prelude.{◌≡◌, ◌<◌, length}
 use Rattle.just_graph.specs.Unfolding.{LeadInside}
 use Rattle.just_names.specs.Texts.{Text}
 use Rattle.just_loader.specs.Reached.{World, FileLeadsTo}
-use Rattle.just_loader.specs.declared.scanned.Scan.{Scan}
+use Rattle.just_loader.specs.declared.scan_result.Scan.{Scan}
 
 -- a row for each file, the root among them, and steps that lead to rows
 pub record HasRows (scan : Scan) : Type 0 where

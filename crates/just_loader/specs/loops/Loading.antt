@@ -18,7 +18,7 @@ use Rattle.just_loader.specs.Loaded.{CameIn, IsAstOf, names_in, names_on, with_p
 use Rattle.just_loader.specs.loops.Placed.{file_at, file_node, name_at, text_step}
 use Rattle.just_loader.specs.Reached.{World, ast_of, link}
 use Rattle.just_loader.specs.loops.Scanned.{ArePlacesOf, IsScan, paths_in}
-use Rattle.just_loader.specs.declared.scanned.Scan.{Scan}
+use Rattle.just_loader.specs.declared.scan_result.Scan.{Scan}
 
 -- The scan is of a world where the syntax layer answers so.
 pub record IsScanBy (w : World) (scan : Scan) (answers : SyntaxAnswers) : Type 0 where

@@ -4,8 +4,8 @@ use Rattle.just_graph.specs.declared.unfolding.Unfolded.{Unfolded}
 use Rattle.just_parts.specs.Items.{Ast}
 use Rattle.just_parts.specs.Asts.{AstKey}
 use Rattle.just_loader.specs.loops.Placed.{key_at}
-use Rattle.just_loader.specs.declared.scanned.Scan.{Scan}
-use Rattle.just_loader.specs.declared.scanned.ScannedFile.{ScannedFile}
+use Rattle.just_loader.specs.declared.scan_result.Scan.{Scan}
+use Rattle.just_loader.specs.declared.scan_result.ScannedFile.{ScannedFile}
 
 -- the key of a node, in texts
 abbrev pub text_key : Scan → Unfolded → AstKey

@@ -8,7 +8,7 @@ use Rattle.just_parts.specs.Asts.{AstKey}
 use Rattle.just_loader.specs.Keys.{FileNode, FileStep}
 use Rattle.just_loader.specs.loops.Numbering.{texts_of}
 use Rattle.just_loader.specs.loops.Scanned.{paths_in}
-use Rattle.just_loader.specs.declared.scanned.Scan.{Scan}
+use Rattle.just_loader.specs.declared.scan_result.Scan.{Scan}
 
 -- the path of the file at a place, and the text of a name under its number
 abbrev pub file_at : Scan → ℕ → Text

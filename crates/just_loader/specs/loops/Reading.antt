@@ -8,9 +8,9 @@ use Rattle.just_ast_items.specs.declared.item.Item.TheVariants as item
 use Rattle.just_source.specs.declared.source.Source.{Source}
 use Rattle.just_names.specs.Texts.{Text}
 use Rattle.just_loader.specs.loops.Loading.{KeepsLaws}
-use Rattle.just_loader.specs.declared.reading.ReadTexts.{ReadTexts}
-use Rattle.just_loader.specs.declared.scanned.Scan.{Scan}
-use Rattle.just_loader.specs.declared.scanned.ScannedFile.{ScannedFile}
+use Rattle.just_loader.specs.declared.texts.ReadTexts.{ReadTexts}
+use Rattle.just_loader.specs.declared.scan_result.Scan.{Scan}
+use Rattle.just_loader.specs.declared.scan_result.ScannedFile.{ScannedFile}
 
 -- an item with the depth and the offsets of another source
 abbrev pub brought_in : Source → Item → Item

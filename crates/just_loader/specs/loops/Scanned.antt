@@ -18,8 +18,8 @@ use Rattle.just_loader.specs.Reached.{World, IsReachedFile, items_of_file, link,
 use Rattle.just_loader.specs.Sources.{text_at}
 use Rattle.just_loader.specs.declared.index.Found.{Found}
 use Rattle.just_loader.specs.declared.index.NameNumbers.{NameNumbers}
-use Rattle.just_loader.specs.declared.scanned.Scan.{Scan}
-use Rattle.just_loader.specs.declared.scanned.ScannedFile.{ScannedFile}
+use Rattle.just_loader.specs.declared.scan_result.Scan.{Scan}
+use Rattle.just_loader.specs.declared.scan_result.ScannedFile.{ScannedFile}
 
 -- the place of the path to which a link leads
 abbrev pub IsPlaceOf : List Text → Link → Option ℕ → Type 0

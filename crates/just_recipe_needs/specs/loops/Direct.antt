@@ -6,7 +6,7 @@ use Rattle.just_ast_references.specs.Mentions.{Calls, Mention, Names}
 use Rattle.just_parts.specs.Known.{Known}
 use Rattle.just_parts.specs.Reading.{mentions}
 use Rattle.just_parts.specs.Scopes.{Scoped}
-use Rattle.just_recipe_needs.specs.declared.direct.DirectNames.{DirectNames}
+use Rattle.just_recipe_needs.specs.declared.direct_names.DirectNames.{DirectNames}
 use Rattle.just_table.specs.Entries.{find}
 
 module _ (m : Known) where

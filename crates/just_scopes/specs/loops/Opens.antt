@@ -21,7 +21,7 @@ use Rattle.just_run_layers.specs.declared.host.Entry.{Entry}
 use Rattle.just_scopes.specs.Need.{IsFound, NumberSets}
 use Rattle.just_scopes.specs.Opening.{Inherited, Handed, Opened, all_opened, open_steps}
 use Rattle.just_scopes.specs.Preorder.{Placed}
-use Rattle.just_scopes.specs.declared.opening.Surrounding.{Surrounding}
+use Rattle.just_scopes.specs.declared.open_module.Surrounding.{Surrounding}
 
 -- what is to be bound of a module where it is asked for a set, or for all
 abbrev pub wanted_from : Handed → Justfile → NumberSet → Wanted
