@@ -36,7 +36,7 @@ pub record IsCompilation (evaluator : Evaluator) (overrides : Overrides) (w : Wo
   pub analyzed : IsAnalyzed (given_in evaluator overrides w) (get same_ast_key c.asts) loaded (root_heading w) c.justfile c.recipes overridden
   pub overrides_are : (n : Number) → get same_number c.overrides n ≡ last_of (overrides_meant c.justfile overrides.entries) n
 
--- What a compilation answers: no rule is broken, so that none is named, the files are compiled, each recipe that is named is held, each that is held is that of a module that stands in the root, whose path has no names, each variable and function stands under its own name in its module, no two variables of all modules have one number, the root can run with these recipes, each variable that was seen as overridden has a value, the names of modules rise, and the root's file is held; or a rule that is broken, or a pattern that is past the limits of regular expressions.
+-- What a compilation answers: no rule is broken, so that none is named, the files are compiled, each recipe that is named is held, each that is held is that of a module that stands in the root, whose path has no names, each variable and function stands under its own name in its module, no two variables of all modules have one number, the root can run with these recipes, each variable that was seen as overridden has a value, the names of modules rise, and the root's file is held; or a rule that is broken, a pattern that is past the limits of regular expressions, or want of memory.
 pub record Compiles (evaluator : Evaluator) (overrides : Overrides) (w : World) (result : Result Compilation Error) : Type 0 where
   pub kept : IfOk result (λ _. KeepsAll evaluator overrides w)
   pub unnamed : IfOk result (λ _. Keeps (BreaksCompilation evaluator overrides w))

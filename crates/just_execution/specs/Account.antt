@@ -74,14 +74,14 @@ AreNamed recipes [] ts = ts ≡ []
 AreNamed recipes (d ∷ ds) ts = (these : List Task) × (others : List Task) × (ts ≡ these ++ others) × StandFor recipes d these × AreNamed recipes ds others
 
 -- a task asked in a table with these tops, where some were asked: it is a top or a prior of one of these, and its pair was not asked;
--- its priors are what its recipe names, or asking for them was the last that happened
+-- its priors are what its recipe names, or asking for them was the last that happened in the table
 pub record AskFits (recipes : List (Recipe Dependency)) (tops : List Task) (asked : List AskedTask) (a : AskedTask) (rest : OnceTables) : Type 0 where
   pub from : In a.task (may_be_asked tops asked)
   pub unasked : has same_pair (pairs_asked asked) a.task.pair ≡ false
   pub named : AreNamed recipes (prior_dependencies recipes a.task.pair.recipe) a.priors ⊎ ((a.priors ≡ []) × (rest ≡ NoMore))
 
 -- a task begun where some were asked and some begun: it was asked, its pair was not begun, and those of its priors were;
--- its subsequents are what its recipe names, or its beginning was the last that happened
+-- its subsequents are what its recipe names, or its beginning was the last that happened in the table
 pub record RunFits (recipes : List (Recipe Dependency)) (asked : List AskedTask) (done : List Pair) (t : Task) (ps ss : List Task) (below rest : OnceTables) : Type 0 where
   pub asked_before : In (record { task = t; priors = ps }) asked
   pub unbegun : has same_pair done t.pair ≡ false

@@ -45,7 +45,7 @@ abbrev pub IsEnough : Scene → ℕ → Type 0
 IsEnough scene n = (f : Question → Answer) (tops : List Task) → AllBelow (length scene.recipes) tops → run_steps (interactions_of scene) f n tops ≡ expected_steps scene f tops
 
 -- Where the answers f are promised to all that the expected run of these tasks asks, and priors do not hang on how a task is called,
--- exactly that run is made, up to its first failing step; where memory or a number is refused, a beginning of it.
+-- exactly that run is made, up to its first failing step; where memory or a count is refused, a beginning of it.
 abbrev pub TasksRunAsExpected : (Inquiry → Option Answer) → (Entry → Option Answer) → Scene → List Task → Log → Log → Result Report Halt → Type 0
 TasksRunAsExpected evaluator host scene tops old new result =
     (f : Question → Answer) → ArePromised (both evaluator host) f (trace_under f (expected_steps scene f tops)) → PriorsIgnoreFlag (interactions_of scene) f (length scene.recipes) tops →
@@ -56,7 +56,7 @@ pub record IsFirstAsked (of_task : TaskInteractions) (f : Question → Answer) (
   pub asked : In (Prepare t) (run_parts of_task f n tops)
   pub alone : (u : Task) → In (Prepare u) (run_parts of_task f n tops) → u.pair ≡ t.pair → u ≡ t
 
--- memory or a number was refused
+-- memory or a count was refused
 abbrev pub IsResourceError : {A : Type 0} → Result A Halt → Type 0
 IsResourceError result = (result ≡ Err Memory) ⊎ (result ≡ Err Exhausted)
 

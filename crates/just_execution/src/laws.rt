@@ -25,7 +25,7 @@ pub fn priors_are_even()
     ensures { (scene : Scene) (f : Question → Answer) (n : ℕ) (tops : List Task) → IsAlike f → PriorsIgnoreFlag (interactions_of scene) f n tops }
 {}
 
-/// Two runs that follow the same expected run, neither of which was refused memory or a number, are one.
+/// Two runs that follow the same expected run, neither of which was refused memory or a count, are one.
 pub fn one_outcome()
     ensures { (qs : _) (end a b : Result (Unit {0}) Halt) (old new last : _) → IsTraceOrPrefix qs end old new a →
         IsTraceOrPrefix qs end old last b → AgreeUnlessResourceError a b new last }

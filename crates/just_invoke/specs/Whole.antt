@@ -34,7 +34,7 @@ abbrev pub PriorsIgnoreFlagIn : NumberSets → Setup → List (Recipe Dependency
 PriorsIgnoreFlagIn sets setup recipes ps f ts =
     (opened : List Opened) → result_under f (all_opened sets setup.handed ps) ≡ Ok opened → PriorsIgnoreFlag (interactions_of (scene_of setup recipes opened)) f (length (scene_of setup recipes opened).recipes) ts
 
--- For promised answers: where the answers f are promised to all that the whole run asks, exactly that run is made, up to its first failing step; where memory or a number is refused, a beginning of it.
+-- For promised answers: where the answers f are promised to all that the whole run asks, exactly that run is made, up to its first failing step; where memory or a count is refused, a beginning of it.
 abbrev pub IsWholeRun : (Inquiry → Option Answer) → (Entry → Option Answer) → Setup → Justfile → List (Recipe Dependency) → List Task → Log → Log → Result Report Halt → Type 0
 IsWholeRun evaluator host setup root recipes ts old new ended =
     (sets : NumberSets) → AreNeeds setup.syntax root recipes ts sets → (ps : List Placed) → IsPreorder root ps → (f : Question → Answer) →

@@ -95,7 +95,7 @@ logged_all qs old = log_of (old.entries ++ calls qs) (old.requests ++ requests_i
 abbrev pub IsPrefixOfTrace : List Question → Log → Log → Type 0
 IsPrefixOfTrace qs old new = (xs : List Question) × (ys : List Question) × (qs ≡ xs ++ ys) × (new ≡ logged_all xs old)
 
--- exactly this trace, and this result; or, where memory or a number was refused, a beginning of the trace
+-- exactly this trace, and this result; or, where memory or a count was refused, a beginning of the trace
 abbrev pub IsTraceOrPrefix : {A : Type 0} → List Question → Result A Halt → Log → Log → Result A Halt → Type 0
 IsTraceOrPrefix qs end old new result =
     ((new ≡ logged_all qs old) × (result ≡ end)) ⊎ (((result ≡ Err Memory) ⊎ (result ≡ Err Exhausted)) × IsPrefixOfTrace qs old new)
