@@ -3,7 +3,10 @@ ghost use Rattle.std.specs.Prelude.{[]};
 ghost use Rattle.just_justfile.specs.Running.{CanRun, HoldsOverridden};
 ghost use Rattle.just_names.specs.Texts.{texts};
 ghost use Rattle.just_bench_syntax.specs.Answers.{answers};
-ghost use Rattle.just_bench.specs.Ran.{IsPlainOutcome, plain_setup};
+ghost use Rattle.just_invoke.specs.Command.{AsksForProgram};
+ghost use Rattle.just_invoke.specs.Evaluation.{AsksForValues};
+ghost use Rattle.just_scopes.specs.Opening.{handed_of};
+ghost use Rattle.just_bench.specs.Ran.{IsPlainCommand, IsPlainEvaluation, IsPlainOutcome, plain_setup};
 
 use crate::laws::layers_agree_on_lines;
 use crate::recorder::Recorder;
@@ -29,9 +32,16 @@ pub fn run_words<'src>(
 ) -> Result<Report, Error<'src>>
     requires can_run { CanRun (answers []) root.now recipes.now }
     requires overridden { HoldsOverridden root.now overrides.now }
-    ensures { let setup = plain_setup config.now overrides.now in
+    // Where recipes run.
+    ensures outcome { let setup = plain_setup config.now overrides.now in
         let outcome = IsPlainOutcome root.now recipes.now config.now setup (texts words.now) host.old.script in
         outcome host.old.entries host.new.entries result }
+    // Where a program runs in their place.
+    ensures commanded { let comes = IsPlainCommand root.now (handed_of config.now overrides.now) host.old.script in
+        (program : _) → AsksForProgram config.now program → comes program host.old.entries host.new.entries result }
+    // Where values are asked for.
+    ensures evaluated { let comes = IsPlainEvaluation root.now (handed_of config.now overrides.now) host.old.script in
+        (format : _) (path : _) → AsksForValues config.now format path → comes format path host.old.entries host.new.entries result }
 {
     let mut writer = StopWriter::new(alloc, 0)?;
     let syntax = PlainSyntax::new();

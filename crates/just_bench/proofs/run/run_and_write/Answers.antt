@@ -38,7 +38,7 @@ returns-in-Err-clause-fault g c =
     let config = c.args.config.now in
     let setup = plain_setup config c.args.overrides.now in
     let words = texts c.args.words.now in
-    undone root recipes config setup words (from_fresh root recipes config setup words c.new-host.result c.run_words-ran.new.host.entries c.run_words-ran.result c.new-host.ensures c.run_words-ran.ensures)
+    undone root recipes config setup words (from_fresh root recipes config setup words c.new-host.result c.run_words-ran.new.host.entries c.run_words-ran.result c.new-host.ensures c.run_words-ran.ensures.outcome)
     c.entries.result.now (g.W.Write.contents c.args.output.now) (g.W.Write.contents c.write_entries-written.new.output) _ c.entries.ensures.list (failed c.in-Err.error c.in-Err.is)
     c.write_entries-written.ensures.begun
 
@@ -51,7 +51,7 @@ returns-in-Ok-clause-done g c =
     let words = texts c.args.words.now in
     let old = g.W.Write.contents c.args.output.now in
     let new = g.W.Write.contents c.write_entries-written.new.output in (
-      from_fresh root recipes config setup words c.new-host.result c.run_words-ran.new.host.entries c.run_words-ran.result c.new-host.ensures c.run_words-ran.ensures,
+      from_fresh root recipes config setup words c.new-host.result c.run_words-ran.new.host.entries c.run_words-ran.result c.new-host.ensures c.run_words-ran.ensures.outcome,
       ap is_ok c.in_default.is,
       subst (λ entries. Appends old new (entry_lines entries)) c.entries.ensures.list c.in-Ok.ensures.whole,
     )
@@ -63,7 +63,7 @@ returns-in-Err-written-clause-fault g c =
     let config = c.args.config.now in
     let setup = plain_setup config c.args.overrides.now in
     let words = texts c.args.words.now in
-    undone root recipes config setup words (from_fresh root recipes config setup words c.new-host.result c.run_words-ran.new.host.entries c.run_words-ran.result c.new-host.ensures c.run_words-ran.ensures)
+    undone root recipes config setup words (from_fresh root recipes config setup words c.new-host.result c.run_words-ran.new.host.entries c.run_words-ran.result c.new-host.ensures c.run_words-ran.ensures.outcome)
     c.entries.result.now (g.W.Write.contents c.args.output.now) (g.W.Write.contents c.write_entries-written.new.output) _ c.entries.ensures.list (refused (ap is_ok c.in_default.is))
     c.write_entries-written.ensures.begun
 
@@ -74,6 +74,6 @@ returns-clause-fault g c =
     let config = c.args.config.now in
     let setup = plain_setup config c.args.overrides.now in
     let words = texts c.args.words.now in
-    undone root recipes config setup words (from_fresh root recipes config setup words c.new-host.result c.run_words-ran.new.host.entries c.run_words-ran.result c.new-host.ensures c.run_words-ran.ensures)
+    undone root recipes config setup words (from_fresh root recipes config setup words c.new-host.result c.run_words-ran.new.host.entries c.run_words-ran.result c.new-host.ensures c.run_words-ran.ensures.outcome)
     c.entries.result.now (g.W.Write.contents c.args.output.now) (g.W.Write.contents c.write_entries-written.new.output) _ c.entries.ensures.list (unwritten (ap is_ok c.in_default.is))
     c.write_entries-written.ensures.begun
