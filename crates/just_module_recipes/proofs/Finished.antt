@@ -31,7 +31,7 @@ use Rattle.just_names.specs.Name.{text_of_name}
 use Rattle.just_names.specs.declared.name.Name.{Name}
 use Rattle.just_names.specs.declared.number.Number.{Number}
 use Rattle.just_paths.specs.declared.modulepath.Modulepath.{Modulepath}
-use Rattle.just_recipe.proofs.Groups.{whole_grouped}
+use Rattle.just_recipe.proofs.GroupLemmas.{whole_grouped}
 use Rattle.just_recipe.specs.Grouping.{grouped}
 use Rattle.just_recipe.specs.Recipes.{IsResolved, find_number}
 use Rattle.just_recipe.specs.declared.dependency.Dependency.{Dependency}

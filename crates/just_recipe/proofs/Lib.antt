@@ -1,3 +1,3 @@
-pub mod Groups
+pub mod GroupLemmas
 pub mod Headings
 pub mod Writing

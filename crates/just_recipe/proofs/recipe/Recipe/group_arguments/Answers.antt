@@ -1,6 +1,6 @@
 use Rattle.std.proofs.Common.{◌≡◌, ◌∙◌, ap, drop, length}
 use Rattle.just_recipe.specs.Grouping.{grouped, concatenated}
-use Rattle.just_recipe.proofs.Groups.{all_grouped, count_grouped, whole_grouped}
+use Rattle.just_recipe.proofs.GroupLemmas.{all_grouped, count_grouped, whole_grouped}
 use Rattle.just_recipe.proofs.recipe.Recipe.group_arguments.Goals as goal
 
 pub returns-clause-count : goal.returns-clause-count
