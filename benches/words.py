@@ -3,7 +3,8 @@
 
     python3 benches/words.py               words in backticks of README.md, CONTRIBUTING.md and docs/ that stand nowhere
                                            in crates/, crates.txt or benches/: one line FILE:LINE: WORD each, status 1
-    python3 benches/words.py --doubled     words that more than one file of specs/ defines, each with its files
+    python3 benches/words.py --doubled     words that more than one file of specs/ defines, each with its files; those of which
+                                           a file stands in the order of reading of docs/definitions.md have a `*`
 
 The first also says whether the program that README.md shows is the crate `caller`, and which definition outside the folders
 specs/loops needs a word of one, which are for private functions alone.
@@ -101,6 +102,18 @@ def doubled():
     return {word: sorted(at) for word, at in sorted(files.items()) if len(at) > 1}, len(files)
 
 
+def in_order():
+    """The files that stand in the order of reading of docs/definitions.md, which names each beside its crate."""
+    text = (TOP / "docs" / "definitions.md").read_text().split("in the order of reading", 1)[1].split("\n## ", 1)[0]
+    files, waiting = set(), []
+    for name, crate in re.findall(r"`(\w+)\.antt`|`(just_\w+)`", text):
+        waiting += [name] if name else []
+        if crate:
+            files |= {f"{crate}/specs/{it}.antt" for it in waiting}
+            waiting = []
+    return files
+
+
 def caller():
     """What is told where the program that README.md shows is not the crate `caller`."""
     shown = re.search("```rust\n(.*?)```", (TOP / "README.md").read_text(), re.DOTALL)
@@ -116,10 +129,11 @@ def needing_loops():
 
 def main(arguments):
     if arguments == ["--doubled"]:
-        twice, count = doubled()
+        (twice, count), listed = doubled(), in_order()
+        reached = {word for word, files in twice.items() if listed.intersection(files)}
         for word, files in twice.items():
-            print(f"{word}: {', '.join(files)}")
-        print(f"{len(twice)} of {count} words")
+            print(f"{'*' if word in reached else ' '} {word}: {', '.join(files)}")
+        print(f"{len(twice)} of {count} words, {len(reached)} of them in the order of reading")
         return 0
     found = missing() + caller() + needing_loops()
     for line in found:
