@@ -24,7 +24,7 @@ use Rattle.just_names.specs.Texts.{Text}
 use Rattle.just_names.specs.declared.number.Number.{Number}
 use Rattle.just_parts.specs.Groups.{ends_group}
 use Rattle.just_parts.specs.Reading.{mentions}
-use Rattle.just_parts.specs.Scopes.{Scoped, attribute_expressions, compiled_expressions, environment_expressions, fragment_expressions, inner_expressions, is_parameter, line_expressions, lines_read, expressions_in_attributes, parameter_expressions, parameter_scopes, property_expressions, read_lines, scoped, scopes_of}
+use Rattle.just_parts.specs.Scopes.{Scoped, attribute_expressions, compiled_expressions, environment_expressions, fragment_expressions, inner_expressions, is_parameter, line_expressions, lines_read, in_attributes, parameter_expressions, parameter_scopes, property_expressions, read_lines, scoped, scopes_of}
 use Rattle.just_parts.specs.Known.{none_hidden}
 use Rattle.just_parts.specs.Syntax.{SyntaxAnswers}
 use Rattle.just_recipe.specs.declared.dependency.Dependency.{Dependency}
@@ -262,7 +262,7 @@ module _ (answers : SyntaxAnswers) (tells : TellsBareLines answers) (settings : 
   continuations line = sym (tells.continuations (line_by by line)) ∙ ap answers.is_continuation (line_bare (number source.parameters) line) ∙ tells.continuations line
 
   attributes_alike : (has : Attribute Expression → List Expression) → ((a : Attribute Expression) → map mentions (has (changed value (under_parameters number []) by a)) ≡ map mentions (has a))
-      → map mentions (expressions_in_attributes has made) ≡ map mentions (expressions_in_attributes has source)
+      → map mentions (in_attributes has made) ≡ map mentions (in_attributes has source)
   attributes_alike has same =
       ap (λ (all : List (NamedAttribute Expression)). map mentions (flat_map (λ (named : NamedAttribute Expression). has named.attribute) all)) is.attributes
       ∙ all_alike value (under_parameters number []) by outer_same by_same has same source.attributes
@@ -300,24 +300,24 @@ module _ (answers : SyntaxAnswers) (tells : TellsBareLines answers) (settings : 
   scopes_of_parameters = ap (λ (ps : List Parameter). map seen (parameter_scopes [] ps)) is.parameters ∙ parameters_alike number told same_under [] [] source.parameters refl
 
   -- what is evaluated where no parameter is known, and where all are
-  outer_alike : map mentions (expressions_in_attributes compiled_expressions made ++ expressions_in_attributes environment_expressions made) ≡ map mentions (expressions_in_attributes compiled_expressions source ++ expressions_in_attributes environment_expressions source)
+  outer_alike : map mentions (in_attributes compiled_expressions made ++ in_attributes environment_expressions made) ≡ map mentions (in_attributes compiled_expressions source ++ in_attributes environment_expressions source)
   outer_alike =
-      both_alike mentions (expressions_in_attributes compiled_expressions made) (expressions_in_attributes environment_expressions made) (expressions_in_attributes compiled_expressions source) (expressions_in_attributes environment_expressions source)
+      both_alike mentions (in_attributes compiled_expressions made) (in_attributes environment_expressions made) (in_attributes compiled_expressions source) (in_attributes environment_expressions source)
       (attributes_alike compiled_expressions (compiled_alike value (under_parameters number []) by outer_same by_same)) (attributes_alike environment_expressions (environment_alike value (under_parameters number []) by outer_same by_same))
 
   inner_alike : map mentions (inner_expressions arguments_of answers settings made) ≡ map mentions (inner_expressions (λ (d : UnresolvedDependency). d.arguments) answers settings source)
   inner_alike =
       let lines = flat_map line_expressions (lines_read answers settings made) in
       let read = flat_map line_expressions (lines_read answers settings source) in
-      both_alike mentions (expressions_in_attributes attribute_expressions made) (lines ++ flat_map linked_of made.dependencies) (expressions_in_attributes attribute_expressions source) (read ++ flat_map written_of source.dependencies)
+      both_alike mentions (in_attributes attribute_expressions made) (lines ++ flat_map linked_of made.dependencies) (in_attributes attribute_expressions source) (read ++ flat_map written_of source.dependencies)
       (attributes_alike attribute_expressions (attribute_alike value (under_parameters number []) by outer_same by_same))
       (both_alike mentions lines (flat_map linked_of made.dependencies) read (flat_map written_of source.dependencies) body_alike arguments_alike)
 
   -- so in its scopes there is what is in those of its source
   pub scopes_alike : map seen (scopes_of arguments_of answers settings made) ≡ map seen (scopes_of (λ (d : UnresolvedDependency). d.arguments) answers settings source)
   scopes_alike =
-      let outer = expressions_in_attributes compiled_expressions made ++ expressions_in_attributes environment_expressions made in
-      let first = expressions_in_attributes compiled_expressions source ++ expressions_in_attributes environment_expressions source in
+      let outer = in_attributes compiled_expressions made ++ in_attributes environment_expressions made in
+      let first = in_attributes compiled_expressions source ++ in_attributes environment_expressions source in
       let inner = inner_expressions arguments_of answers settings made in
       let last = inner_expressions (λ (d : UnresolvedDependency). d.arguments) answers settings source in
       both_alike seen (map (scoped none_hidden) outer) (parameter_scopes [] made.parameters ++ map (scoped (is_parameter made.parameters)) inner) (map (scoped none_hidden) first) (parameter_scopes [] source.parameters ++ map (scoped (is_parameter source.parameters)) last)

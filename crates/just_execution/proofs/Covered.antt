@@ -11,7 +11,7 @@ use Rattle.just_ast_expressions.specs.declared.expression.Expression.{Expression
 use Rattle.just_ast_expressions.specs.declared.scope.Scope.{Scope}
 use Rattle.just_ast_definitions.specs.declared.parameter.Parameter.{Parameter}
 use Rattle.just_parts.specs.Known.{Known, none_hidden}
-use Rattle.just_parts.specs.Scopes.{Scoped, attribute_expressions, compiled_expressions, environment_expressions, inner_expressions, is_parameter, line_expressions, lines_read, expressions_in_attributes, parameter_scopes, scoped, scopes_of}
+use Rattle.just_parts.specs.Scopes.{Scoped, attribute_expressions, compiled_expressions, environment_expressions, inner_expressions, is_parameter, line_expressions, lines_read, in_attributes, parameter_scopes, scoped, scopes_of}
 use Rattle.just_parts.specs.Syntax.{SyntaxAnswers}
 use Rattle.just_recipe.specs.Grouping.{concatenated}
 use Rattle.just_recipe.specs.declared.dependency.Dependency.{Dependency}
@@ -73,7 +73,7 @@ module _ (m : Known) (scope : Scope) where
 -- of a recipe that has its module's scope
 module _ (answers : SyntaxAnswers) (m : ModuleScope) (r : Recipe Dependency) where
   abbrev compiled : List Scoped
-  compiled = map (scoped none_hidden) (expressions_in_attributes compiled_expressions r ++ expressions_in_attributes environment_expressions r)
+  compiled = map (scoped none_hidden) (in_attributes compiled_expressions r ++ in_attributes environment_expressions r)
 
   abbrev inner : List Scoped
   inner = map (scoped (is_parameter r.parameters)) (inner_expressions arguments_of answers m.context.settings.now r)
@@ -128,12 +128,12 @@ module _ (answers : SyntaxAnswers) (m : ModuleScope) (r : Recipe Dependency) whe
     arguments-given =
         All-weaker (λ (d : Dependency). All reads_in (given_by d)) (IsGivenIn (module_of m.context) h.scope) one-given r.dependencies
         (All-parts reads_in given_by r.dependencies (all-right reads_in lines_of (flat_map given_by r.dependencies)
-        (all-right reads_in (expressions_in_attributes attribute_expressions r) (lines_of ++ flat_map given_by r.dependencies) inner-read)))
+        (all-right reads_in (in_attributes attribute_expressions r) (lines_of ++ flat_map given_by r.dependencies) inner-read)))
 
     -- and what its body reads
     pub body-covered : IsBodyCovered answers m.context.settings.now (module_of m.context) h.scope r
     body-covered =
-        let attributes : List Expression = expressions_in_attributes attribute_expressions r in
+        let attributes : List Expression = in_attributes attribute_expressions r in
         let given : List Expression = flat_map given_by r.dependencies in
         All-weaker reads_in (IsCovered (module_of m.context) h.scope) covered-by (attributes ++ lines_of)
         (All-append reads_in attributes lines_of (all-left reads_in attributes (lines_of ++ given) inner-read) (all-left reads_in lines_of given (all-right reads_in attributes (lines_of ++ given) inner-read)))

@@ -13,7 +13,7 @@ use Rattle.just_parts.specs.Known.{Known, none_hidden}
 use Rattle.just_parts.specs.Layers.{Layers}
 use Rattle.just_parts.specs.Needs.{Needs}
 use Rattle.just_parts.specs.Reading.{IsReadIn}
-use Rattle.just_parts.specs.Scopes.{compiled_expressions, expressions_in_attributes}
+use Rattle.just_parts.specs.Scopes.{compiled_expressions, in_attributes}
 use Rattle.just_parts.specs.Syntax.{SyntaxAnswers}
 use Rattle.just_recipe.specs.declared.dependency.UnresolvedDependency.{UnresolvedDependency}
 use Rattle.just_recipe.specs.declared.recipe.Recipe.{Recipe}
@@ -29,7 +29,7 @@ use Rattle.just_module_contents.specs.Known.{functions_under, known_of}
 
 -- the expressions of a recipe that are evaluated while compiling
 abbrev pub recipe_expressions : Recipe UnresolvedDependency → List Expression
-recipe_expressions = expressions_in_attributes compiled_expressions
+recipe_expressions = in_attributes compiled_expressions
 
 -- those of the settings of a module
 abbrev pub settings_expressions : Contents → List Expression

@@ -10,7 +10,7 @@ use Rattle.just_names.specs.Name.{text_of_name}
 use Rattle.just_names.specs.Texts.{Text}
 use Rattle.just_names.specs.declared.name.Name.{Name}
 use Rattle.just_ast_expressions.specs.declared.settings.Settings.{Settings}
-use Rattle.just_parts.specs.Scopes.{Scoped, compiled_expressions, environment_expressions, inner_expressions, is_parameter, expressions_in_attributes, parameter_expressions, parameter_scopes, scoped}
+use Rattle.just_parts.specs.Scopes.{Scoped, compiled_expressions, environment_expressions, inner_expressions, is_parameter, in_attributes, parameter_expressions, parameter_scopes, scoped}
 use Rattle.just_parts.specs.Known.{none_hidden}
 use Rattle.just_parts.specs.Syntax.{SyntaxAnswers}
 use Rattle.just_ast_definitions.specs.Parameter.{is_required, is_variadic, least_arguments, most_arguments}
@@ -67,7 +67,7 @@ scopes_bare before (p ∷ ps) =
 
 written_bare : (answers : SyntaxAnswers) (settings : Settings) (r : Recipe UnresolvedDependency) → written_scopes answers settings (located_recipe r) ≡ written_scopes answers settings r
 written_bare answers settings r = λ i.
-    map (scoped none_hidden) (expressions_in_attributes compiled_expressions r ++ expressions_in_attributes environment_expressions r)
+    map (scoped none_hidden) (in_attributes compiled_expressions r ++ in_attributes environment_expressions r)
     ++ (scopes_bare [] r.parameters i ++ map (scoped (hidden_bare r.parameters i)) (inner_expressions (λ (d : UnresolvedDependency). d.arguments) answers settings r))
 
 pub outline_located : (r : Recipe UnresolvedDependency) → outline_of (located_recipe r) ≡ outline_of r

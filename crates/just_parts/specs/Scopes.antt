@@ -81,8 +81,8 @@ parameter_scopes before (p ∷ ps) = map (scoped (is_parameter before)) (paramet
 
 module _ {D : Type 0} where
   -- all that attributes have of a kind
-  abbrev pub expressions_in_attributes : (Attribute Expression → List Expression) → Recipe D → List Expression
-  expressions_in_attributes has r = flat_map (λ (named : NamedAttribute Expression). has named.attribute) r.attributes
+  abbrev pub in_attributes : (Attribute Expression → List Expression) → Recipe D → List Expression
+  in_attributes has r = flat_map (λ (named : NamedAttribute Expression). has named.attribute) r.attributes
 
   -- all lines of a script, and those of a shell body that are read
   abbrev pub lines_read : SyntaxAnswers → Settings → Recipe D → List Line
@@ -91,11 +91,11 @@ module _ {D : Type 0} where
   -- what is evaluated where all parameters are known: attributes, lines, and the arguments of dependencies
   abbrev pub inner_expressions : (D → List DependencyArgument) → SyntaxAnswers → Settings → Recipe D → List Expression
   inner_expressions arguments answers settings r =
-      expressions_in_attributes attribute_expressions r
+      in_attributes attribute_expressions r
       ++ (flat_map line_expressions (lines_read answers settings r) ++ flat_map (λ (d : D). map (λ (a : DependencyArgument). a.expression) (arguments d)) r.dependencies)
 
   -- Whatever a recipe reads, under the settings of its module: docs, helps, patterns and the environment see no parameters; a parameter sees those before it; all else sees all of them.
   abbrev pub scopes_of : (D → List DependencyArgument) → SyntaxAnswers → Settings → Recipe D → List Scoped
   scopes_of arguments answers settings r =
-      map (scoped none_hidden) (expressions_in_attributes compiled_expressions r ++ expressions_in_attributes environment_expressions r)
+      map (scoped none_hidden) (in_attributes compiled_expressions r ++ in_attributes environment_expressions r)
       ++ (parameter_scopes [] r.parameters ++ map (scoped (is_parameter r.parameters)) (inner_expressions arguments answers settings r))

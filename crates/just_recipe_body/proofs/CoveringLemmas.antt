@@ -8,7 +8,7 @@ use Rattle.just_ast_definitions.specs.declared.line.Line.{Line}
 use Rattle.just_ast_expressions.specs.declared.scope.Scope.{Scope}
 use Rattle.just_ast_expressions.specs.declared.settings.Settings.{Settings}
 use Rattle.just_parts.specs.Known.{Known}
-use Rattle.just_parts.specs.Scopes.{attribute_expressions, line_expressions, lines_read, expressions_in_attributes, read_lines}
+use Rattle.just_parts.specs.Scopes.{attribute_expressions, line_expressions, lines_read, in_attributes, read_lines}
 use Rattle.just_parts.specs.Scopes as scopes
 use Rattle.just_parts.specs.Syntax.{SyntaxAnswers}
 use Rattle.just_run_layers.specs.Covering.{IsCovered}
@@ -40,4 +40,4 @@ pub script-lines : {D : Type 0} (syntax : SyntaxAnswers) (settings : Settings) (
 script-lines syntax settings known scope r s h =
     lines-covered known scope r.body
     (subst (λ k. All (IsCovered known scope) (flat_map line_expressions (if k then r.body else read_lines syntax settings true r.body))) s
-    (all-right (IsCovered known scope) (expressions_in_attributes attribute_expressions r) (flat_map line_expressions (lines_read syntax settings r)) h))
+    (all-right (IsCovered known scope) (in_attributes attribute_expressions r) (flat_map line_expressions (lines_read syntax settings r)) h))

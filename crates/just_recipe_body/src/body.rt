@@ -1,7 +1,7 @@
 //! What a body runs by, and what each kind of body asks.
 ghost use Rattle.std.specs.Prelude.{◌≡◌, ◌++◌, true, false, IfOk, OnOk, length};
 ghost use Rattle.std.specs.Path.{path_join};
-ghost use Rattle.just_parts.specs.Scopes.{attribute_expressions, expressions_in_attributes};
+ghost use Rattle.just_parts.specs.Scopes.{attribute_expressions, in_attributes};
 ghost use Rattle.just_run_layers.specs.Covering.{IsCovered, module_of};
 ghost use Rattle.std.specs.List.{All};
 ghost use Rattle.just_run_layers.specs.Host.{KeepsPromises};
@@ -147,7 +147,7 @@ pub fn ask_directory<'a, 'run, 'src, S: Syntax, E: Evaluation>(
     body: &Body<'a, 'run, 'src, S>,
     evaluation: &mut E,
 ) -> Result<Option<Text>, Halt<'src>>
-    requires covered { All (IsCovered (module_of body.now.context.now) body.now.scope.now) (expressions_in_attributes attribute_expressions body.now.recipe.now) }
+    requires covered { All (IsCovered (module_of body.now.context.now) body.now.scope.now) (in_attributes attribute_expressions body.now.recipe.now) }
     ensures keeps { KeepsPromises (E.promised evaluation.old) (E.promised evaluation.new) }
     ensures took { let steps = spec.directory_steps (spec.contents_of (S.answers body.now.syntax.now) body.now) in
         AsksEvaluator (E.promised evaluation.old) steps (E.requests evaluation.old) (E.requests evaluation.new) result }
@@ -183,7 +183,7 @@ pub fn ask_format<'a, 'run, 'src, S: Syntax, E: Evaluation>(
     body: &Body<'a, 'run, 'src, S>,
     evaluation: &mut E,
 ) -> Result<Option<Text>, Halt<'src>>
-    requires covered { All (IsCovered (module_of body.now.context.now) body.now.scope.now) (expressions_in_attributes attribute_expressions body.now.recipe.now) }
+    requires covered { All (IsCovered (module_of body.now.context.now) body.now.scope.now) (in_attributes attribute_expressions body.now.recipe.now) }
     ensures keeps { KeepsPromises (E.promised evaluation.old) (E.promised evaluation.new) }
     ensures took { let steps = spec.format_steps (spec.contents_of (S.answers body.now.syntax.now) body.now) in
         AsksEvaluator (E.promised evaluation.old) steps (E.requests evaluation.old) (E.requests evaluation.new) result }
@@ -206,7 +206,7 @@ pub fn prepare<'a, 'run, 'src, S: Syntax, E: Evaluation>(
     body: &Body<'a, 'run, 'src, S>,
     evaluation: &mut E,
 ) -> Result<Preparation, Halt<'src>>
-    requires covered { All (IsCovered (module_of body.now.context.now) body.now.scope.now) (expressions_in_attributes attribute_expressions body.now.recipe.now) }
+    requires covered { All (IsCovered (module_of body.now.context.now) body.now.scope.now) (in_attributes attribute_expressions body.now.recipe.now) }
     ensures keeps { KeepsPromises (E.promised evaluation.old) (E.promised evaluation.new) }
     ensures took { let steps = spec.prepare_steps (spec.contents_of (S.answers body.now.syntax.now) body.now) in
         AsksEvaluator (E.promised evaluation.old) steps (E.requests evaluation.old) (E.requests evaluation.new) result }

@@ -2,7 +2,7 @@
 ghost use Rattle.std.specs.Prelude.{◌≡◌, IfOk};
 ghost use Rattle.std.specs.List.{All};
 ghost use Rattle.std.specs.Option.{option_copied};
-ghost use Rattle.just_parts.specs.Scopes.{attribute_expressions, expressions_in_attributes};
+ghost use Rattle.just_parts.specs.Scopes.{attribute_expressions, in_attributes};
 ghost use Rattle.just_run_layers.specs.Covering.{IsCovered, module_of};
 ghost use Rattle.just_run_layers.specs.Host.{KeepsPromises};
 ghost use Rattle.just_run_layers.specs.Interactions.{HasTrace, both, log_of};
@@ -87,7 +87,7 @@ pub fn confirm<'a, 'run, 'src, S: Syntax, E: Evaluation, H: Host>(
     evaluation: &mut E,
     host: &mut H,
 ) -> Result<bool, Halt<'src>>
-    requires covered { All (IsCovered (module_of body.now.context.now) body.now.scope.now) (expressions_in_attributes attribute_expressions body.now.recipe.now) }
+    requires covered { All (IsCovered (module_of body.now.context.now) body.now.scope.now) (in_attributes attribute_expressions body.now.recipe.now) }
     ensures keeps { KeepsPromises (E.promised evaluation.old) (E.promised evaluation.new) }
     ensures keeps_host { KeepsPromises (H.promised host.old) (H.promised host.new) }
     ensures took { let first = log_of (H.entries host.old) (E.requests evaluation.old) in

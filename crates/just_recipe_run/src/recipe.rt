@@ -36,7 +36,7 @@ fn has_private(attributes: &[NamedAttribute]) -> bool
 pub trait RunRecipe<'src> {
     ghost use Rattle.std.specs.Prelude.{◌≡◌, [], IsSome};
     ghost use Rattle.std.specs.List.{All};
-    ghost use Rattle.just_parts.specs.Scopes.{attribute_expressions, expressions_in_attributes};
+    ghost use Rattle.just_parts.specs.Scopes.{attribute_expressions, in_attributes};
     ghost use Rattle.just_run_layers.specs.Covering.{IsCovered, module_of};
     ghost use Rattle.just_run_layers.specs.Evaluation.{contents_of};
     ghost use Rattle.just_run_layers.specs.Host.{KeepsPromises};
@@ -98,7 +98,7 @@ pub trait RunRecipe<'src> {
         positional: &Sequence<Text>,
         scope: &Scope<'src>,
     ) -> Result<(), Halt<'src>>
-        requires attributes { All (IsCovered (module_of context.now) scope.now) (expressions_in_attributes attribute_expressions (recipe_of self.now)) }
+        requires attributes { All (IsCovered (module_of context.now) scope.now) (in_attributes attribute_expressions (recipe_of self.now)) }
         requires lines { All (IsLineCovered (module_of context.now) scope.now) (recipe_of self.now).body }
         ensures keeps { KeepsPromises (E.promised evaluation.old) (E.promised evaluation.new) }
         ensures keeps_host { KeepsPromises (H.promised host.old) (H.promised host.new) }
@@ -122,7 +122,7 @@ pub trait RunRecipe<'src> {
         is_dependency: bool,
         scope: &Scope<'src>,
     ) -> Result<bool, Halt<'src>>
-        requires { All (IsCovered (module_of context.now) scope.now) (expressions_in_attributes attribute_expressions (recipe_of self.now)) }
+        requires { All (IsCovered (module_of context.now) scope.now) (in_attributes attribute_expressions (recipe_of self.now)) }
         ensures keeps { KeepsPromises (E.promised evaluation.old) (E.promised evaluation.new) }
         ensures keeps_host { KeepsPromises (H.promised host.old) (H.promised host.new) }
         ensures took { let first = log_of (H.entries host.old) (E.requests evaluation.old) in

@@ -1,7 +1,7 @@
 //! A script body: what it asks, by the settings and by the answers.
 ghost use Rattle.std.specs.Prelude.{◌≡◌, IfOk};
 ghost use Rattle.std.specs.List.{All};
-ghost use Rattle.just_parts.specs.Scopes.{attribute_expressions, expressions_in_attributes};
+ghost use Rattle.just_parts.specs.Scopes.{attribute_expressions, in_attributes};
 ghost use Rattle.just_run_layers.specs.Covering.{IsCovered, module_of};
 ghost use Rattle.just_run_layers.specs.Host.{KeepsPromises};
 ghost use Rattle.just_run_layers.specs.Interactions.{HasTrace, both, log_of};
@@ -53,7 +53,7 @@ fn begin<'a, 'run, 'src, S: Syntax, E: Evaluation, H: Host>(
     evaluation: &mut E,
     host: &mut H,
 ) -> Result<(), Halt<'src>>
-    requires covered { All (IsCovered (module_of body.now.context.now) body.now.scope.now) (expressions_in_attributes attribute_expressions body.now.recipe.now) }
+    requires covered { All (IsCovered (module_of body.now.context.now) body.now.scope.now) (in_attributes attribute_expressions body.now.recipe.now) }
     ensures keeps { KeepsPromises (E.promised evaluation.old) (E.promised evaluation.new) }
     ensures keeps_host { KeepsPromises (H.promised host.old) (H.promised host.new) }
     ensures took { let first = log_of (H.entries host.old) (E.requests evaluation.old) in
@@ -191,7 +191,7 @@ fn run_texts<'a, 'run, 'src, S: Syntax, E: Evaluation, H: Host>(
     evaluation: &mut E,
     host: &mut H,
 ) -> Result<(), Halt<'src>>
-    requires covered { All (IsCovered (module_of body.now.context.now) body.now.scope.now) (expressions_in_attributes attribute_expressions body.now.recipe.now) }
+    requires covered { All (IsCovered (module_of body.now.context.now) body.now.scope.now) (in_attributes attribute_expressions body.now.recipe.now) }
     ensures keeps { KeepsPromises (E.promised evaluation.old) (E.promised evaluation.new) }
     ensures keeps_host { KeepsPromises (H.promised host.old) (H.promised host.new) }
     ensures took { let first = log_of (H.entries host.old) (E.requests evaluation.old) in
@@ -225,7 +225,7 @@ fn run_unless_dry<'a, 'run, 'src, S: Syntax, E: Evaluation, H: Host>(
     evaluation: &mut E,
     host: &mut H,
 ) -> Result<(), Halt<'src>>
-    requires covered { All (IsCovered (module_of body.now.context.now) body.now.scope.now) (expressions_in_attributes attribute_expressions body.now.recipe.now) }
+    requires covered { All (IsCovered (module_of body.now.context.now) body.now.scope.now) (in_attributes attribute_expressions body.now.recipe.now) }
     ensures keeps { KeepsPromises (E.promised evaluation.old) (E.promised evaluation.new) }
     ensures keeps_host { KeepsPromises (H.promised host.old) (H.promised host.new) }
     ensures took { let first = log_of (H.entries host.old) (E.requests evaluation.old) in
@@ -248,7 +248,7 @@ pub fn run_script<'a, 'run, 'src, S: Syntax, E: Evaluation, H: Host>(
     evaluation: &mut E,
     host: &mut H,
 ) -> Result<(), Halt<'src>>
-    requires attributes { All (IsCovered (module_of body.now.context.now) body.now.scope.now) (expressions_in_attributes attribute_expressions body.now.recipe.now) }
+    requires attributes { All (IsCovered (module_of body.now.context.now) body.now.scope.now) (in_attributes attribute_expressions body.now.recipe.now) }
     requires lines { All (IsLineCovered (module_of body.now.context.now) body.now.scope.now) body.now.recipe.now.body }
     ensures keeps { KeepsPromises (E.promised evaluation.old) (E.promised evaluation.new) }
     ensures keeps_host { KeepsPromises (H.promised host.old) (H.promised host.new) }

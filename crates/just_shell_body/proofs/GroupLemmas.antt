@@ -7,7 +7,7 @@ use Rattle.just_ast_expressions.specs.declared.scope.Scope.{Scope}
 use Rattle.just_ast_expressions.specs.declared.settings.Settings.{Settings}
 use Rattle.just_parts.specs.Groups.{ends_group}
 use Rattle.just_parts.specs.Known.{Known}
-use Rattle.just_parts.specs.Scopes.{attribute_expressions, line_expressions, lines_read, expressions_in_attributes, read_lines}
+use Rattle.just_parts.specs.Scopes.{attribute_expressions, line_expressions, lines_read, in_attributes, read_lines}
 use Rattle.just_parts.specs.Syntax.{SyntaxAnswers}
 use Rattle.just_run_layers.specs.Covering.{IsCovered}
 use Rattle.just_recipe.specs.Script.{is_script}
@@ -58,4 +58,4 @@ body-groups syntax settings known scope r s h =
     all-groups-covered syntax settings known scope r.body
     (lines-covered known scope (read_lines syntax settings true r.body)
     (subst (λ k. All (IsCovered known scope) (flat_map line_expressions (if k then r.body else read_lines syntax settings true r.body))) s
-    (all-right (IsCovered known scope) (expressions_in_attributes attribute_expressions r) (flat_map line_expressions (lines_read syntax settings r)) h)))
+    (all-right (IsCovered known scope) (in_attributes attribute_expressions r) (flat_map line_expressions (lines_read syntax settings r)) h)))

@@ -1,7 +1,7 @@
 //! A whole shell body: its groups of lines, one after another.
 ghost use Rattle.std.specs.Prelude.{◌≡◌, ◌<◌, ◌≤◌, ◌+◌, ◌∷◌, drop, length};
 ghost use Rattle.std.specs.List.{All};
-ghost use Rattle.just_parts.specs.Scopes.{attribute_expressions, expressions_in_attributes};
+ghost use Rattle.just_parts.specs.Scopes.{attribute_expressions, in_attributes};
 ghost use Rattle.just_run_layers.specs.Covering.{IsCovered, module_of};
 ghost use Rattle.just_run_layers.specs.Host.{KeepsPromises};
 ghost use Rattle.just_run_layers.specs.LineTexts.{AgreesWith};
@@ -77,7 +77,7 @@ pub fn run_shell<'a, 'run, 'src, S: Syntax, E: Evaluation, H: Host>(
     host: &mut H,
 ) -> Result<(), Halt<'src>>
     requires same { AgreesWith E.sigils E.continues (S.answers body.now.syntax.now) }
-    requires attributes { All (IsCovered (module_of body.now.context.now) body.now.scope.now) (expressions_in_attributes attribute_expressions body.now.recipe.now) }
+    requires attributes { All (IsCovered (module_of body.now.context.now) body.now.scope.now) (in_attributes attribute_expressions body.now.recipe.now) }
     requires lines { let covered = AreGroupsCovered (S.answers body.now.syntax.now) body.now.context.now.settings.now in
         covered (module_of body.now.context.now) body.now.scope.now body.now.recipe.now.body }
     ensures keeps { KeepsPromises (E.promised evaluation.old) (E.promised evaluation.new) }

@@ -4,7 +4,7 @@ use Rattle.std.proofs.lemmas.Bool.{cond-false}
 use Rattle.just_errors.specs.declared.halt.Halt.{Halt}
 use Rattle.just_errors.specs.declared.halt.Halt.TheVariants.{Failed}
 use Rattle.just_errors.specs.declared.run_error.RunError.TheVariants.{NotConfirmed}
-use Rattle.just_parts.specs.Scopes.{attribute_expressions, line_expressions, lines_read, expressions_in_attributes}
+use Rattle.just_parts.specs.Scopes.{attribute_expressions, line_expressions, lines_read, in_attributes}
 use Rattle.just_run_layers.specs.Covering.{IsCovered, module_of}
 use Rattle.just_run_layers.specs.Host.{Answer}
 use Rattle.just_run_layers.specs.Interactions.{Return, Log, Question, HasTrace, and_then, both, log_of}
@@ -28,7 +28,7 @@ confirm-requires g c =
     let m = c.args.home.now in
     let r = c.args.recipe.now in
     let h = c.args.held.now in
-    record { covered = all-left (IsCovered (module_of m.context) h.scope) (expressions_in_attributes attribute_expressions r) (flat_map line_expressions (lines_read answers m.context.settings.now r)) (body-covered answers m r h c.requires) }
+    record { covered = all-left (IsCovered (module_of m.context) h.scope) (in_attributes attribute_expressions r) (flat_map line_expressions (lines_read answers m.context.settings.now r)) (body-covered answers m r h c.requires) }
 
 pub returns-in_err-confirm-clause-took : goal.returns-in_err-confirm-clause-took
 returns-in_err-confirm-clause-took g c =

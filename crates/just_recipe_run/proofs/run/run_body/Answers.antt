@@ -1,6 +1,6 @@
 use Rattle.std.proofs.Common.{sym}
 use Rattle.std.specs.Prelude.{flat_map}
-use Rattle.just_parts.specs.Scopes.{attribute_expressions, line_expressions, lines_read, expressions_in_attributes}
+use Rattle.just_parts.specs.Scopes.{attribute_expressions, line_expressions, lines_read, in_attributes}
 use Rattle.just_run_layers.specs.Covering.{IsCovered, module_of}
 use Rattle.just_recipe_body.proofs.AllLemmas.{all-left}
 use Rattle.just_recipe_body.proofs.CoveringLemmas.{script-lines}
@@ -15,7 +15,7 @@ run_script-requires-clause-lines g c =
 pub run_shell-requires-clause-attributes : goal.run_shell-requires-clause-attributes
 run_shell-requires-clause-attributes g c =
     let b = c.args.body.now in
-    all-left (IsCovered (module_of b.context.now) b.scope.now) (expressions_in_attributes attribute_expressions b.recipe.now)
+    all-left (IsCovered (module_of b.context.now) b.scope.now) (in_attributes attribute_expressions b.recipe.now)
     (flat_map line_expressions (lines_read (g.S.Syntax.answers b.syntax.now) b.context.now.settings.now b.recipe.now)) c.requires.covered
 
 pub run_shell-requires-clause-lines : goal.run_shell-requires-clause-lines
