@@ -11,11 +11,11 @@ pub use Rattle.just_run_layers.specs.LineTexts.{AgreesWith}
 pub use Rattle.just_loader.specs.ModuleFile.{module_files}
 pub use Rattle.just_loader.specs.Reached.{world_of}
 pub use Rattle.just_justfile.specs.Closed.{AreClosed, IsClosedModule, IsHeld, IsRooted, is_ordered}
-pub use Rattle.just_invoke.specs.Cause.{IsOfWords, cause_of}
+pub use Rattle.just_invocations.specs.Cause.{IsOfWords, cause_of}
 pub use Rattle.just_invoke.specs.Command.{AsksForProgram, IsProgramRun, IsProgramRunAsExpected}
 pub use Rattle.just_invoke.specs.Evaluation.{AsksForValues, IsEvaluation, IsEvaluationAsExpected, RunsRecipes, WritesNothing, writer_of}
 pub use Rattle.just_invoke.specs.Outcome.{RunsAsExpected, IsOutcome}
-pub use Rattle.just_invoke.specs.Split.{HasWordsFault, IsSplit, invoked_of}
+pub use Rattle.just_invocations.specs.Split.{HasWordsFault, IsSplit, invoked_of}
 pub use Rattle.just_justfile.specs.Running.{CanRun, HoldsOverridden, TellsBareLines}
 pub use Rattle.just_justfile.specs.Walks.{AreOrdered, AreModulesOrdered}
 pub use Rattle.just_scopes.specs.Opening.{handed_of, setup_of}

@@ -93,7 +93,7 @@ pub mod resolution {
 
 /// What command words mean.
 pub mod invocation_parser {
-    pub use just_invoke::{Invocation, InvocationParser};
+    pub use just_invocations::{Invocation, InvocationParser};
 }
 
 /// A module as it is compiled, its run, and what is told of one.

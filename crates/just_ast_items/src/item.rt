@@ -5,7 +5,7 @@ use just_data::{Exact, Sequence, Text};
 use just_names::{Name, Token};
 
 /// A definition of a source text, whose recipes are `R`. A grammar leaves the absolute path of a file out.
-#[derive(Clone, Drop)]
+#[derive(Clone)]
 pub enum Item<'src, R> {
     /// Another name for a recipe or a module.
     Alias(Alias<'src>),
@@ -40,6 +40,35 @@ pub enum Item<'src, R> {
     Unexport {
         name: Name<'src>,
     },
+}
+
+// Written out, as with `Error`: an item is taken apart here alone.
+impl<'src, R: Drop> Drop for Item<'src, R> {
+    fn drop(self) {
+        match self {
+            Item::Alias(_value) => {}
+            Item::Assignment(_value) => {}
+            Item::Comment(_value) => {}
+            Item::Function(_value) => {}
+            Item::Import {
+                relative: _relative,
+                absolute: _absolute,
+                optional: _optional,
+            } => {}
+            Item::Module {
+                name: _name,
+                relative: _relative,
+                absolute: _absolute,
+                attributes: _attributes,
+                doc: _doc,
+                optional: _optional,
+            } => {}
+            Item::Recipe(_value) => {}
+            Item::Setting(_value) => {}
+            Item::Unexport { name: _name } => {}
+            Item::Newline => {}
+        }
+    }
 }
 
 impl<'src, R: Exact> Exact for Item<'src, R> {

@@ -21,7 +21,7 @@ use Rattle.just_invoke.specs.Command.{IsProgramRun, ProgramAsked}
 use Rattle.just_invoke.specs.Evaluation.{IsEvaluation, RunsRecipes, Writer, writer_of}
 use Rattle.just_invoke.specs.Outcome.{IsOutcome}
 use Rattle.just_scopes.specs.Opening.{Handed, Setup, setup_of}
-use Rattle.just_invoke.specs.Split.{Counts}
+use Rattle.just_invocations.specs.Split.{Counts}
 use Rattle.just_bench_evaluation.specs.Answered.{plain_answer}
 use Rattle.just_bench_evaluation.specs.Lines.{displayed}
 use Rattle.just_bench_syntax.specs.Answers.{answers}

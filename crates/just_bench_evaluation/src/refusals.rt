@@ -21,7 +21,7 @@ pub fn no_value(alloc: Global) -> Refusal
 pub fn refusal_of<'src>(alloc: Global, error: Error<'src>) -> Refusal
     ensures { IsRefusalOf error.entry result }
 {
-    if let Error::Compile(_) = error {
+    if let Error::Compile(_) = &error {
         return no_value(alloc);
     }
     Refusal::Memory

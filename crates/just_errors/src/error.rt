@@ -22,7 +22,7 @@ pub enum SourceError {
 }
 
 /// Every fault of compiling, of reading words and of running.
-#[derive(Debug, Drop, Error)]
+#[derive(Debug, Error)]
 pub enum Error<'src> {
     /// The files could not be loaded.
     #[error(transparent)]
@@ -56,6 +56,20 @@ impl<'src> Error<'src> {
             Error::Run(error) => error.name(),
             Error::Exhausted => "Exhausted",
             Error::Memory => "Memory",
+        }
+    }
+}
+
+// Written out so that an error is taken apart here alone: with a derived one, each function that may fail would do so in its
+// own proof.
+impl<'src> Drop for Error<'src> {
+    fn drop(self) {
+        match self {
+            Error::Load(_error) => {}
+            Error::Compile(_error) => {}
+            Error::Invocation(_error) => {}
+            Error::Run(_error) => {}
+            Error::Exhausted | Error::Memory => {}
         }
     }
 }

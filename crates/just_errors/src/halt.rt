@@ -4,7 +4,6 @@ use crate::run_error::RunError;
 use std::alloc::{AllocError, AllocFailed};
 
 /// Why a run ended before its end.
-#[derive(Drop)]
 pub enum Halt<'src> {
     /// Memory was refused.
     Memory,
@@ -12,6 +11,32 @@ pub enum Halt<'src> {
     Exhausted,
     /// A step failed.
     Failed(RunError<'src>),
+}
+
+impl<'src> Halt<'src> {
+    ghost use Rattle.std.specs.Prelude.{◌≡◌};
+    ghost use Rattle.just_errors.specs.Halts.{error_of};
+
+    // The error that a run answers.
+    fn into_error(self) -> Error<'src>
+        ensures { result ≡ error_of self.entry }
+    {
+        match self {
+            Halt::Memory => Error::Memory,
+            Halt::Exhausted => Error::Exhausted,
+            Halt::Failed(error) => Error::Run(error),
+        }
+    }
+}
+
+// As with `Error`: it is taken apart here alone.
+impl<'src> Drop for Halt<'src> {
+    fn drop(self) {
+        match self {
+            Halt::Memory | Halt::Exhausted => {}
+            Halt::Failed(_error) => {}
+        }
+    }
 }
 
 impl<'src> From<AllocError> for Halt<'src> {
@@ -43,10 +68,6 @@ impl<'src> From<Halt<'src>> for Error<'src> {
     ghost from_gives = { λ halt error. error ≡ error_of halt };
 
     fn from(halt: Halt<'src>) -> Error<'src> {
-        match halt {
-            Halt::Memory => Error::Memory,
-            Halt::Exhausted => Error::Exhausted,
-            Halt::Failed(error) => Error::Run(error),
-        }
+        halt.into_error()
     }
 }

@@ -9,17 +9,17 @@ use just_analyzer::layers::{Config, Error, Syntax};
 use just_analyzer::{Compilation, Compiler, Sources, is_clean};
 use just_bench::{PlainEvaluation, PlainSyntax, read_sources};
 use just_examples_answers::calls::{add_justfile, add_recipes};
-use just_examples_answers::compilations::add_compiled;
-use just_examples_answers::evaluations::add_values;
 use just_examples_answers::listings::add_listing;
-use just_examples_answers::requests::add_requests;
-use just_examples_answers::runs::add_run;
 use just_examples_answers::traits::{add_recipe, add_stability};
 use just_examples_answers::variables::add_variable;
 use just_examples_answers::walks::add_walk;
 use just_examples_answers::{add_items, answer_text, read_pairs};
 use just_examples_format::faults::add_fault;
 use just_examples_format::questions::{Asked, read_asked};
+use just_examples_runs::compilations::add_compiled;
+use just_examples_runs::evaluations::add_values;
+use just_examples_runs::requests::add_requests;
+use just_examples_runs::runs::add_run;
 use just_examples_values::add_evaluation;
 use std::alloc::{AllocError, Global};
 
@@ -233,7 +233,7 @@ pub fn answer(alloc: Global, bundle: &str, question: &str) -> Result<Option<Stri
         "find" => Ok(Some(answer_find(alloc, bundle, rest)?)),
         "parse" | "read" | "conflicts" => Ok(Some(answer_text(alloc, kind, rest)?)),
         "copy" | "file" | "Recorder::memory_at" | "Recorder::scripted" => {
-            just_examples_answers::answer(alloc, kind, rest)
+            just_examples_runs::answer(alloc, kind, rest)
         }
         _ => just_examples_calls::answer(alloc, kind, rest),
     }

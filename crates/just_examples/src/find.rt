@@ -1,43 +1,9 @@
 //! The search for the file of a module.
-use just_analyzer::layers::{Ast, Error, Item, LoadError, Name};
-use just_analyzer::{Compiler, Sources, Text};
+use just_analyzer::{Compiler, Sources};
 use just_bench::{parse, read_sources};
 use just_bench_syntax::PlainSyntax;
+use just_examples_answers::searches::{described, first_in, told};
 use std::alloc::{AllocError, Global};
-
-// The name of the first recipe of a text.
-fn first_in<'src>(ast: &Ast<'src>) -> Option<Name<'src>> {
-    match ast.items.get(0) {
-        Some(Item::Recipe(recipe)) => Some(recipe.name.copied()),
-        _ => None,
-    }
-}
-
-// How many files are found where these are several, or the name of another fault.
-fn fault_text(alloc: Global, error: &Error) -> Result<String, AllocError> {
-    match error {
-        Error::Load(LoadError::AmbiguousModuleFile { module, found }) => {
-            format!(in alloc; "found {} of {module}\n", found.len())
-        }
-        _ => format!(in alloc; "error {}\n", error.name()),
-    }
-}
-
-// What is told of a fault, which is dropped.
-fn told(alloc: Global, error: Error) -> Result<String, AllocError> {
-    let text = fault_text(alloc, &error);
-    drop(error);
-    text
-}
-
-// The file that is found, or how many are.
-fn described(alloc: Global, found: Result<Option<Text>, Error>) -> Result<String, AllocError> {
-    match found {
-        Ok(Some(path)) => format!(in alloc; "found {path}\n"),
-        Ok(None) => String::from_str(alloc, "found none\n"),
-        Err(error) => told(alloc, error),
-    }
-}
 
 // What is found for a module of the name of a text's first recipe that a file in a folder declares, at a path where one is
 // given.

@@ -1,6 +1,6 @@
 //! What a text says, item by item.
 use crate::item_lines::add_readings;
-use just_bench::parse;
+use just_bench_reading::parse;
 use just_bench_syntax::PlainSyntax;
 use just_data::Text;
 use just_examples_format::faults::unless_fault;

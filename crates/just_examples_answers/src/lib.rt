@@ -1,24 +1,15 @@
-//! The answers of worked examples, line by line: what a text says, what the crates below the analyzer answer, what a
-//! compilation has, what words mean in it, and what a run did.
+//! The answers of worked examples about texts and compiled modules, line by line: what a text says, what the calls of a compilation
+//! give, where paths lead, what listings show, and which file a search finds.
 #![tactic(auto)]
 
-mod answers;
-mod bundles;
 pub mod calls;
-pub mod compilations;
-mod copies;
-mod entries;
-pub mod evaluations;
 mod item_lines;
 mod items;
 pub mod listings;
-mod recorders;
-pub mod requests;
-pub mod runs;
+pub mod searches;
 mod texts;
 pub mod traits;
 pub mod variables;
 pub mod walks;
 
-pub use answers::answer;
 pub use items::{add_items, answer_text, read_pairs};

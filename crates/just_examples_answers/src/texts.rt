@@ -1,16 +1,9 @@
 //! Recipes and variables, as they are written.
+use just_examples_format::lists::add_lines;
 use just_justfile::{Justfile, Recipes};
 use just_listings::shown;
 use just_recipe::RecipeSignature;
 use std::alloc::{AllocError, Global};
-
-/// Adds the lines of what is written, each behind a mark.
-pub(crate) fn add_lines(shown: &str, text: &mut String) -> Result<(), AllocError> {
-    for line in shown.lines() {
-        writeln!(text, "| {line}")?;
-    }
-    Ok(())
-}
 
 /// Adds how a recipe is called, and the recipe as it is written, or a variable as it is; of those that the root's module has, the
 /// one of a name.

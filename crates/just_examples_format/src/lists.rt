@@ -1,4 +1,4 @@
-//! Lists in a line.
+//! Lists in a line, and the lines of what is written.
 use std::alloc::AllocError;
 use std::fmt;
 
@@ -27,4 +27,12 @@ pub fn add_group<T: fmt::Display>(text: &mut String, words: &[T]) -> Result<(), 
 /// What stands before the next part of a line that has these.
 pub fn next(parts: &String) -> &'static str {
     if parts.is_empty() { " " } else { ", " }
+}
+
+/// Adds the lines of what is written, each behind a mark.
+pub fn add_lines(shown: &str, text: &mut String) -> Result<(), AllocError> {
+    for line in shown.lines() {
+        writeln!(text, "| {line}")?;
+    }
+    Ok(())
 }

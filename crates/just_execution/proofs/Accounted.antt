@@ -16,22 +16,23 @@ use Rattle.just_run_layers.specs.Host.{Answer, Executed}
 use Rattle.just_run_layers.specs.declared.held.Held.{Held}
 use Rattle.just_run_layers.specs.Interactions.{Log, executed_in, Question, ToHost, Interaction, Return, and_then, HasTrace, logged}
 use Rattle.just_run_layers.proofs.InteractionLemmas.{took-gives, took-split}
-use Rattle.just_execution.specs.declared.pair.Pair.{Pair}
+use Rattle.just_tasks.specs.declared.pair.Pair.{Pair}
 use Rattle.just_execution.specs.Account.{AskedTask, OnceTables, NoMore, Asked, Began, own, executions, AreIn, AreNamed, Complete, counts, HasAccount, SaysOfTables, executed_by_recipe, at_path}
 use Rattle.just_execution.specs.Firsts.{has}
 use Rattle.just_execution.specs.TaskInteractions.{ask_steps, begin_steps, body_of, execute_at, follow_steps, interactions_of, run_in}
-use Rattle.just_execution.specs.declared.task.Task.{Task}
-use Rattle.just_execution.specs.Pairs.{OnceTable, same_pair, prior_dependencies, subsequent_dependencies, AllBelow}
+use Rattle.just_tasks.specs.declared.task.Task.{Task}
+use Rattle.just_tasks.specs.Pairs.{OnceTable, same_pair, prior_dependencies, subsequent_dependencies, AllBelow}
 use Rattle.just_recipe.specs.Recipes.{IsOrdered}
-use Rattle.just_execution.specs.Scene.{ModuleContents, Scene}
+use Rattle.just_tasks.specs.Scene.{ModuleContents, Scene}
 use Rattle.just_execution.specs.Walking.{TaskInteractions, Prepared, State, counted, all_steps, opened, fresh_steps, block_steps, ran, ran_steps, visit_steps, walk_steps}
 use Rattle.just_execution.proofs.Joined.{with_priors, asks, join, still-new, add-zero, none-in, none-below}
 use Rattle.just_execution.proofs.Asked.{ask-named, ask-quiet, follow-named, follow-quiet}
 use Rattle.just_execution.proofs.TaskInteractions.{named-below}
-use Rattle.just_execution.proofs.Places.{priors-before, subsequents-before}
-use Rattle.just_execution.proofs.Quiet.{Quiet, executed-append, took-quiet}
+use Rattle.just_tasks.proofs.Places.{priors-before, subsequents-before}
+use Rattle.just_run_layers.proofs.Quiet.{Quiet, executed-append, took-quiet}
 use Rattle.just_execution.proofs.QuietRecipes.{recipe-quiet}
-use Rattle.just_execution.proofs.Standing.{Stands, Walked, Accounts, IsFresh, Blocks, ok-is, ok-not, err-is, memory-not, gained-none, gave, broke, stands-then, stands-low, accounts-then, accounts-broke, count-split, full-here, stands-asked, stands-opened, fresh-of, fresh-broke, block-broke, block-none, block-ran, ask-broke, priors-broke, visit-broke, visit-ran}
+use Rattle.just_run_layers.proofs.Halts.{ok-is, ok-not, err-is, memory-not}
+use Rattle.just_execution.proofs.Standing.{Stands, Walked, Accounts, IsFresh, Blocks, gained-none, gave, broke, stands-then, stands-low, accounts-then, accounts-broke, count-split, full-here, stands-asked, stands-opened, fresh-of, fresh-broke, block-broke, block-none, block-ran, ask-broke, priors-broke, visit-broke, visit-ran}
 
 -- what steps for tasks keep: nothing is executed, and the tasks that they come to are what is named
 pub record GivesNamed {A : Type 0} (tasks : A → List Task) (recipes : List (Recipe Dependency)) (dependencies : List Dependency) (old new : Log) (r : Result A Halt) : Type 0 where

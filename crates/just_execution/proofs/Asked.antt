@@ -24,16 +24,17 @@ use Rattle.just_run_layers.proofs.InteractionLemmas.{took-asked}
 use Rattle.just_execution.specs.Account.{AreNamed, StandFor}
 use Rattle.just_execution.specs.Arguments.{argument_steps, dependencies_steps, dependency_steps, group_steps, groups_steps, spread, task_at, tasks_with, texts_given, texts_steps, value_steps, valued_answered, with_text}
 use Rattle.just_execution.specs.TaskInteractions.{after_steps, ask_in, ask_steps, bound_answered, consent_by, consent_steps, follow_in, follow_steps, held_steps, parameters_steps, prepare_steps, prior_steps, surrounded}
-use Rattle.just_execution.specs.loops.TaskInteractions.{AsksAlone}
-use Rattle.just_execution.specs.Pairs.{prior_dependencies, subsequent_dependencies}
-use Rattle.just_execution.specs.Scene.{ModuleContents, Scene}
+use Rattle.just_run_layers.specs.loops.Interactions.{AsksAlone}
+use Rattle.just_tasks.specs.Pairs.{prior_dependencies, subsequent_dependencies}
+use Rattle.just_tasks.specs.Scene.{ModuleContents, Scene}
 use Rattle.just_execution.specs.Walking.{Prepared}
-use Rattle.just_execution.specs.declared.task.Task.{Task}
+use Rattle.just_tasks.specs.declared.task.Task.{Task}
 use Rattle.just_execution.proofs.Gathered.{alone-map, alone-stop, gives-split}
-use Rattle.just_execution.proofs.Places.{at-place}
-use Rattle.just_execution.proofs.Quiet.{Quiet, failed-not, quiet-gathered, quiet-then}
+use Rattle.just_tasks.proofs.Places.{at-place}
+use Rattle.just_run_layers.proofs.Halts.{failed-not, memory-not}
+use Rattle.just_run_layers.proofs.Quiet.{Quiet, quiet-then}
+use Rattle.just_execution.proofs.Quiet.{quiet-gathered}
 use Rattle.just_execution.proofs.QuietRecipes.{consent-quiet}
-use Rattle.just_execution.proofs.Standing.{memory-not}
 
 -- nothing is executed
 valued-quiet : (a : Answer) → Quiet (valued_answered a)

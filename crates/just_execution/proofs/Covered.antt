@@ -22,10 +22,10 @@ use Rattle.just_run_layers.specs.declared.held.Held.{Held}
 use Rattle.just_recipe_body.specs.Covering.{IsBodyCovered}
 use Rattle.just_recipe_body.proofs.AllLemmas.{all-left, all-right}
 use Rattle.just_execution.specs.loops.Arguments.{IsGivenIn, IsReadableArgument}
-use Rattle.just_execution.specs.Homes.{IsBound, IsRead, arguments_of}
+use Rattle.just_tasks.specs.Homes.{IsBound, IsRead, arguments_of}
 use Rattle.just_execution.specs.loops.Homes.{ServesIn}
-use Rattle.just_execution.specs.declared.scopes.ModuleScope.{ModuleScope}
-use Rattle.just_execution.proofs.Places.{All-unmap}
+use Rattle.just_tasks.specs.declared.scopes.ModuleScope.{ModuleScope}
+use Rattle.just_tasks.proofs.Places.{All-unmap}
 
 -- what holds of each element of several lists
 All-parts : {X Y : Type 0} (P : X → Type 0) (f : Y → List X) (ys : List Y) → All P (flat_map f ys) → All (λ y. All P (f y)) ys

@@ -18,11 +18,11 @@ use Rattle.just_recipe_body.specs.Confirmation.{confirm_by, confirm_steps, confi
 use Rattle.just_execution.specs.Arguments.{argument_steps, dependencies_steps, dependency_steps, gathered, group_steps, groups_steps, tasks_with, texts_given, texts_steps, valued_answered}
 use Rattle.just_execution.specs.Expansion.{Part, Prepare, Block}
 use Rattle.just_execution.specs.TaskInteractions.{IsAlike, ask_in, ask_steps, bound_answered, consent_by, consent_steps, consented, held_steps, interactions_of, prepare_steps, prior_steps, surrounded}
-use Rattle.just_execution.specs.Pairs.{task}
+use Rattle.just_tasks.specs.Pairs.{task}
 use Rattle.just_execution.specs.Run.{Each, PriorsIgnoreFlag, PartIgnoresFlag, run_parts, priors_in, subsequents_by}
-use Rattle.just_execution.specs.Scene.{ModuleContents, Scene}
-use Rattle.just_execution.specs.declared.pair.Pair.{Pair}
-use Rattle.just_execution.specs.declared.task.Task.{Task}
+use Rattle.just_tasks.specs.Scene.{ModuleContents, Scene}
+use Rattle.just_tasks.specs.declared.pair.Pair.{Pair}
+use Rattle.just_tasks.specs.declared.task.Task.{Task}
 
 module _ (f : Question → Answer) where
   abbrev on_success : {A B : Type 0} → Result A Halt → (A → Result B Halt) → Result B Halt

@@ -10,8 +10,8 @@ use Rattle.just_execution.specs.Expansion.{Part, Prepare, Block, same_part, part
 use Rattle.just_execution.specs.Firsts.{has, without_key, firsts_by}
 use Rattle.just_execution.specs.loops.Lower.{IsLower}
 use Rattle.just_execution.specs.Reports.{IsFirstAsked}
-use Rattle.just_execution.specs.declared.task.Task.{Task}
-use Rattle.just_execution.specs.Pairs.{same_pair, once_key, AllBelow}
+use Rattle.just_tasks.specs.declared.task.Task.{Task}
+use Rattle.just_tasks.specs.Pairs.{same_pair, once_key, AllBelow}
 use Rattle.just_execution.specs.Run.{priors_by, run_parts, PriorsIgnoreFlag}
 use Rattle.just_execution.specs.Walking.{TaskInteractions}
 use Rattle.just_execution.proofs.Walks.{blocks, walk, walks}

@@ -11,8 +11,8 @@ use Rattle.just_execution.specs.declared.frame.Frame.TheVariants.{Call, Block, B
 use Rattle.just_execution.specs.declared.frame.OpenTable.{OpenTable}
 use Rattle.just_execution.specs.loops.Frames.{walk_at, under, frame_steps, continuation_from, calls_of}
 use Rattle.just_execution.specs.loops.Lower.{IsLower}
-use Rattle.just_execution.specs.declared.task.Task.{Task}
-use Rattle.just_execution.specs.Pairs.{AllBelow}
+use Rattle.just_tasks.specs.declared.task.Task.{Task}
+use Rattle.just_tasks.specs.Pairs.{AllBelow}
 use Rattle.just_execution.specs.Walking.{TaskInteractions, State, count_steps, all_steps, opened, fresh_steps, block_steps, ran, ran_steps, visit_steps, walk_steps}
 
 -- walks that agree below a place agree on lists of tasks below it

@@ -10,7 +10,7 @@ use Rattle.just_run_layers.specs.Host.{Answer, KeepsPromises}
 use Rattle.just_run_layers.specs.Interactions.{Log, log_of, Interaction, Return, Fail, Ask, and_then, CanReturn, HasTrace, both}
 use Rattle.just_run_layers.proofs.InteractionLemmas.{keeps-both, keeps-self, then-assoc, then-give, then-same, took-out, took-stop, took-then}
 use Rattle.just_execution.specs.Arguments.{gathered}
-use Rattle.just_execution.specs.loops.TaskInteractions.{AsksAlone}
+use Rattle.just_run_layers.specs.loops.Interactions.{AsksAlone}
 
 -- what steps come to, by what the first of them comes to
 pub gives-split : {A B : Type 0} (s : Interaction A) (k : A → Interaction B) (y : B) → CanReturn (and_then s k) y → (x : A) × CanReturn s x × CanReturn (k x) y

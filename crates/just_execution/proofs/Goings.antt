@@ -12,8 +12,8 @@ use Rattle.just_execution.specs.declared.frame.Frame.{Frame}
 use Rattle.just_execution.specs.declared.frame.Frame.TheVariants.{Call, Block}
 use Rattle.just_execution.specs.loops.Frames.{walk_at, with_calls, continuation_from, calls_of, Simulates, replace_value}
 use Rattle.just_execution.specs.loops.Lower.{IsLower}
-use Rattle.just_execution.specs.declared.task.Task.{Task}
-use Rattle.just_execution.specs.Pairs.{AllBelow}
+use Rattle.just_tasks.specs.declared.task.Task.{Task}
+use Rattle.just_tasks.specs.Pairs.{AllBelow}
 use Rattle.just_execution.specs.declared.run.Report.{Report}
 use Rattle.just_execution.specs.Reports.{calls_in}
 use Rattle.just_execution.specs.Walking.{TaskInteractions, Prepared, State, add_at, count_steps, fresh_steps, opened, ran, walk_steps}

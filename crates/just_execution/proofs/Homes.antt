@@ -1,7 +1,7 @@
 -- What tasks lead to whose recipes have their module's scope has it too.
 use Rattle.std.proofs.Common.{◌≡◌, Bool, true, false, ℕ, zero, suc, ◌<◌, List, [], ◌∷◌, length, map, drop, take, Option, None, Some, Ok, refl, sym, ◌∙◌, ap, subst, arith}
 use Rattle.std.specs.List.{All, Contains, slice_get}
-use Rattle.std.proofs.lemmas.List.Elements.{All-contains, All-contains_itself, All-drop, All-head, All-nil, All-tail, All-take, All-weaker}
+use Rattle.std.proofs.lemmas.List.Elements.{All-contains, All-contains_itself, All-drop, All-nil, All-take, All-weaker}
 use Rattle.just_graph.specs.Steps.{Reached, from_start, from_member}
 use Rattle.just_graph.proofs.Members.{contained, in_map, is_in, the_one}
 use Rattle.just_recipe.specs.declared.dependency.Dependency.{Dependency}
@@ -15,20 +15,21 @@ use Rattle.just_run_layers.specs.Host.{Answer}
 use Rattle.just_run_layers.specs.Interactions.{both, Log, log_of}
 use Rattle.just_run_layers.proofs.InteractionLemmas.{took-gives}
 use Rattle.just_execution.specs.Account.{AreNamed}
-use Rattle.just_execution.specs.Homes.{AllHaveModuleScope, HasModuleScope, Modules, module_scope_at}
+use Rattle.just_tasks.specs.Homes.{AllHaveModuleScope, HasModuleScope, Modules, module_scope_at}
 use Rattle.just_execution.specs.loops.Homes.{IsCallable, IsServed, ServesIn}
 use Rattle.just_execution.specs.TaskInteractions.{ask_steps, follow_steps}
-use Rattle.just_execution.specs.loops.TaskInteractions.{AsksAlone, Prepares}
-use Rattle.just_execution.specs.Pairs.{AllBelow, at_place, needed}
+use Rattle.just_run_layers.specs.loops.Interactions.{AsksAlone}
+use Rattle.just_execution.specs.loops.TaskInteractions.{Prepares}
+use Rattle.just_tasks.specs.Pairs.{AllBelow, at_place, needed}
 use Rattle.just_recipes.specs.Places.{place_of}
-use Rattle.just_execution.specs.Leading.{DependsOnPlace, places}
-use Rattle.just_execution.specs.Scene.{Scene, contents_found, contents_of, lone, running, scene_with}
-use Rattle.just_execution.proofs.Lone.{as_run, none-after, none-before, same-module}
+use Rattle.just_tasks.specs.Leading.{DependsOnPlace, places}
+use Rattle.just_tasks.specs.Scene.{Scene, contents_found, contents_of, lone, running, scene_with}
+use Rattle.just_tasks.proofs.Lone.{as_run, none-after, none-before, same-module}
 use Rattle.just_execution.specs.Walking.{Prepared}
-use Rattle.just_execution.specs.declared.scopes.ModuleScope.{ModuleScope}
-use Rattle.just_execution.specs.declared.task.Task.{Task}
+use Rattle.just_tasks.specs.declared.scopes.ModuleScope.{ModuleScope}
+use Rattle.just_tasks.specs.declared.task.Task.{Task}
 use Rattle.just_execution.proofs.Asked.{ask-named, follow-named, named-all}
-use Rattle.just_execution.proofs.Places.{IsBefore, priors-before, subsequents-before}
+use Rattle.just_tasks.proofs.Places.{IsBefore, priors-before, subsequents-before}
 
 -- what is reached from some places is reached from others that lead to these
 reached-from : {R : ℕ → ℕ → Type 0} (first second : List ℕ) → ((a : ℕ) → Contains first a → Reached R second [] a) → (b : ℕ) → Reached R first [] b → Reached R second [] b
@@ -114,9 +115,3 @@ module _ (answers : SyntaxAnswers) (modules : Modules) (rs : List (Recipe Depend
 
   pub serves-in : IsServed answers modules rs t h → ServesIn answers m r h
   serves-in served = served m r at there
-
--- what holds of all holds of each that is found at a place
-pub All-got : {A : Type 0} (P : A → Type 0) (xs : List A) (k : ℕ) (x : A) → All P xs → slice_get xs k ≡ Some x → P x
-All-got P [] k x h e = cc
-All-got P (y ∷ xs) zero x h e = let same : y ≡ x = cc in subst P same (All-head P y xs h)
-All-got P (y ∷ xs) (suc k) x h e = All-got P xs k x (All-tail P y xs h) e

@@ -10,10 +10,10 @@ use Rattle.just_graph.proofs.Members.{In, in_left, in_right}
 use Rattle.just_recipe.specs.declared.dependency.Dependency.{Dependency}
 use Rattle.just_recipe.specs.declared.recipe.Recipe.{Recipe}
 use Rattle.just_run_layers.specs.Host.{Executed}
-use Rattle.just_execution.specs.declared.pair.Pair.{Pair}
+use Rattle.just_tasks.specs.declared.pair.Pair.{Pair}
 use Rattle.just_execution.specs.Firsts.{has}
-use Rattle.just_execution.specs.declared.task.Task.{Task}
-use Rattle.just_execution.specs.Pairs.{same_pair, prior_dependencies}
+use Rattle.just_tasks.specs.declared.task.Task.{Task}
+use Rattle.just_tasks.specs.Pairs.{same_pair, prior_dependencies}
 use Rattle.just_execution.specs.Account.{AskedTask, OnceTables, NoMore, Asked, Began, own, begun, executions, AreIn, may_be_asked, pairs_asked, AreNamed, FitsTables, Complete, prior_count, asked_count, if_any, counts_below, IsFullBelow}
 use Rattle.just_execution.specs.Walking.{add_at}
 use Rattle.just_execution.proofs.Keeps.{has-append}

@@ -16,7 +16,6 @@ pub mod TaskInteractions
 pub mod Lone
 pub mod LoneTraces
 pub mod Pairs
-pub mod Places
 pub mod Quiet
 pub mod QuietBodies
 pub mod QuietRecipes

@@ -11,16 +11,18 @@ use Rattle.just_run_layers.specs.Evaluation.{Inquiry, ScopeRequest}
 use Rattle.just_run_layers.specs.Host.{Answer, KeepsPromises}
 use Rattle.just_run_layers.specs.Interactions.{Log, Interaction, HasTrace, both, log_of}
 use Rattle.just_execution.specs.Arguments.{dependencies_steps}
-use Rattle.just_execution.specs.Homes.{Modules, module_scope_at}
+use Rattle.just_tasks.specs.Homes.{Modules, module_scope_at}
 use Rattle.just_execution.specs.TaskInteractions.{consent_by, consent_steps, follow_steps, parameters_steps, surrounded}
-use Rattle.just_execution.specs.loops.TaskInteractions.{AsksAlone, Prepares}
-use Rattle.just_execution.specs.Pairs.{prior_dependencies, subsequent_dependencies}
-use Rattle.just_execution.specs.Scene.{Scene, contents_of, running, scene_with}
-use Rattle.just_execution.specs.declared.scopes.ModuleScope.{ModuleScope}
-use Rattle.just_execution.specs.declared.task.Task.{Task}
+use Rattle.just_run_layers.specs.loops.Interactions.{AsksAlone}
+use Rattle.just_execution.specs.loops.TaskInteractions.{Prepares}
+use Rattle.just_tasks.specs.Pairs.{prior_dependencies, subsequent_dependencies}
+use Rattle.just_tasks.specs.Scene.{Scene, contents_of, running, scene_with}
+use Rattle.just_tasks.specs.declared.scopes.ModuleScope.{ModuleScope}
+use Rattle.just_tasks.specs.declared.task.Task.{Task}
 use Rattle.just_execution.proofs.Homes.{contents-there}
 use Rattle.just_execution.proofs.TaskTraces as leaf
-use Rattle.just_execution.proofs.Lone.{as_run, none-of-lone, running-at, same-consent, same-dependencies, same-parameters}
+use Rattle.just_tasks.proofs.Lone.{as_run, none-of-lone, running-at}
+use Rattle.just_execution.proofs.Lone.{same-consent, same-dependencies, same-parameters}
 
 module _ (answers : SyntaxAnswers) (modules : Modules) (b : Bool) (rs : List (Recipe Dependency)) (t : Task) (r : Recipe Dependency) (m : ModuleScope) (at : slice_get rs t.pair.recipe ≡ Some r)
     (there : module_scope_at modules r.module_path ≡ Some m) where

@@ -2,14 +2,14 @@
 use Rattle.std.proofs.Common.{◌≡◌, ℕ, Bool, true, false, ◌&&◌, List, [], ◌∷◌, nat_eq, refl, sym, ap, subst, ◌∙◌, ◌||◌, ◌==◌, cond, inl, inr, arith, eqb-true, eq-eqb, Ordering, Less, Equal, Greater}
 use Rattle.std.specs.Cmp.Lexicographic.{pointwise, slice_cmp}
 use Rattle.std.proofs.lemmas.Bool.{and_parts, and_from, true≢false, false_from_ne_true, cases_Bool}
-use Rattle.just_execution.specs.declared.pair.Pair.{Pair}
-use Rattle.just_execution.specs.Pairs.{same_pair}
+use Rattle.just_tasks.specs.declared.pair.Pair.{Pair}
+use Rattle.just_tasks.specs.Pairs.{same_pair}
 use Rattle.std.specs.Ordering.{is_eq, nat_cmp, ordering_then}
 use Rattle.std.specs.BTreeMap.{is_at}
 use Rattle.std.specs.List.{list_any}
 use Rattle.std.proofs.lemmas.Grind.{common_steps}
 use Rattle.just_execution.specs.Firsts.{has}
-use Rattle.just_execution.specs.contracts.pair.PairOrd.TheImpl.{cmp-value}
+use Rattle.just_tasks.specs.contracts.pair.PairOrd.TheImpl.{cmp-value}
 use Rattle.just_execution.proofs.Keeps.{Exact}
 
 list-itself : {A : Type 0} (same : A → A → Bool) → Exact same → (xs : List A) → pointwise same xs xs ≡ true

@@ -17,8 +17,8 @@ use Rattle.just_recipe_body.specs.declared.judgement.Program.TheVariants as prog
 use Rattle.just_shell_body.specs.Lines.{command_of_group, group_command_steps, groups, is_skipped, lines_text_steps, trimmed}
 use Rattle.just_shell_body.specs.ShellBody.{call_steps, command_steps, group_steps, groups_steps, is_shown, lines_steps, shell_answered, shell_call, shell_call_steps, shell_steps, show_command_steps, shown_command, teller_of, timed_steps, unless_dry_steps, unless_ended}
 use Rattle.just_shell_body.specs.declared.lines.GroupCommand.{GroupCommand}
-use Rattle.just_execution.proofs.Quiet.{Quiet, failed-not, quiet-then}
-use Rattle.just_execution.proofs.Standing.{memory-not}
+use Rattle.just_run_layers.proofs.Halts.{failed-not, memory-not}
+use Rattle.just_run_layers.proofs.Quiet.{Quiet, quiet-then}
 
 pub quiet-cond : {A : Type 0} (test : Bool) (s u : Interaction A) → Quiet s → Quiet u → Quiet (cond test s u)
 quiet-cond true s u h l = h

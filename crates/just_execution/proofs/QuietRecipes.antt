@@ -11,7 +11,8 @@ use Rattle.just_recipe_run.specs.RecipeRun.{body_steps, explain_steps, explained
 use Rattle.just_shell_body.specs.ShellBody.{shell_steps}
 use Rattle.just_script_body.specs.ScriptBody.{script_steps}
 use Rattle.just_execution.specs.TaskInteractions.{consent_steps, consented}
-use Rattle.just_execution.proofs.Quiet.{Quiet, failed-not, quiet-then}
+use Rattle.just_run_layers.proofs.Halts.{failed-not}
+use Rattle.just_run_layers.proofs.Quiet.{Quiet, quiet-then}
 use Rattle.just_execution.proofs.QuietBodies.{confirm-quiet, quiet-cond, shell_body-quiet}
 use Rattle.just_execution.proofs.QuietScripts.{script_body-quiet}
 

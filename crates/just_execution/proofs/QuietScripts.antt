@@ -11,9 +11,9 @@ use Rattle.just_recipe_body.specs.Judging.{judged, no_marks}
 use Rattle.just_recipe_body.specs.declared.judgement.Program.TheVariants as program
 use Rattle.just_script_body.specs.Executors.{executor_of}
 use Rattle.just_script_body.specs.ScriptBody.{heading_steps, call_steps, executed_steps, is_grandiloquent, is_shown, script_run_steps, script_answered, script_call, script_call_steps, script_steps, show_all_steps, show_if_steps, show_time_steps, shown_call_steps, shown_steps, teller_of, texts_steps, unless_dry_steps}
-use Rattle.just_execution.proofs.Quiet.{Quiet, quiet-then}
+use Rattle.just_run_layers.proofs.Quiet.{Quiet, quiet-then}
 use Rattle.just_execution.proofs.QuietBodies.{directory-quiet, environment-quiet, format-quiet, line-quiet, quiet-cond, quiet-given, time-quiet}
-use Rattle.just_execution.proofs.Standing.{memory-not}
+use Rattle.just_run_layers.proofs.Halts.{memory-not}
 
 all-quiet : (texts : List Text) → Quiet (show_all_steps texts)
 all-quiet [] = tt

@@ -9,11 +9,11 @@ use Rattle.just_execution.specs.declared.run_state.RunState.{RunState}
 use Rattle.just_execution.specs.declared.frame.Frame.{Frame}
 use Rattle.just_execution.specs.declared.frame.Frame.TheVariants.{Call, Block, Back}
 use Rattle.just_execution.specs.declared.frame.OpenTable.{OpenTable}
-use Rattle.just_execution.specs.declared.pair.Pair.{Pair}
+use Rattle.just_tasks.specs.declared.pair.Pair.{Pair}
 use Rattle.just_execution.specs.loops.Frames.{walk_at, with_calls, under, continuation_from, calls_of, IsSoundFrame, AreSoundFrames, state_of, IsSound, IsLighter, IsOpened, continuation_of}
 use Rattle.just_execution.specs.loops.Homes.{IsCallable, IsServed}
-use Rattle.just_execution.specs.declared.task.Task.{Task}
-use Rattle.just_execution.specs.Pairs.{AllBelow, put_in}
+use Rattle.just_tasks.specs.declared.task.Task.{Task}
+use Rattle.just_tasks.specs.Pairs.{AllBelow, put_in}
 use Rattle.just_execution.specs.loops.Pairs.{table_of}
 use Rattle.just_execution.specs.Walking.{TaskInteractions, State, add_at, counted, opened, fresh_steps, ran}
 use Rattle.just_execution.proofs.FrameLemmas.{opened-left}

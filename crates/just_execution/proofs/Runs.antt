@@ -8,12 +8,12 @@ use Rattle.just_run_layers.specs.Evaluation.{Inquiry}
 use Rattle.just_run_layers.specs.Host.{Answer}
 use Rattle.just_run_layers.specs.Interactions.{Log, both, trace_under, result_under, IsTraceOrPrefix}
 use Rattle.just_execution.specs.declared.run.Report.{Report}
-use Rattle.just_execution.specs.declared.task.Task.{Task}
+use Rattle.just_tasks.specs.declared.task.Task.{Task}
 use Rattle.just_execution.specs.TaskInteractions.{interactions_of}
-use Rattle.just_execution.specs.Pairs.{AllBelow}
+use Rattle.just_tasks.specs.Pairs.{AllBelow}
 use Rattle.just_recipe.specs.Recipes.{IsOrdered}
 use Rattle.just_execution.specs.Reports.{calls_in, IsRun, TasksRunAsExpected, HasRunTrace, expected_steps}
-use Rattle.just_execution.specs.Scene.{Scene}
+use Rattle.just_tasks.specs.Scene.{Scene}
 use Rattle.just_execution.specs.Walking.{fresh_steps, walk_steps}
 use Rattle.just_execution.proofs.Accounted.{fresh-account}
 use Rattle.just_execution.proofs.TaskInteractions.{leaves-lower}

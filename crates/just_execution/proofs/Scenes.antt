@@ -15,11 +15,11 @@ use Rattle.just_paths.specs.declared.modulepath.Modulepath.{Modulepath}
 use Rattle.just_execution.specs.TaskInteractions.{after_steps, ask_in, ask_steps, begin_steps, execute_at, execute_steps, follow_in, follow_steps, interactions_of, prepare_steps, run_in}
 use Rattle.just_execution.specs.Reports.{TasksRunAsExpected, HasRunTrace, calls_in}
 use Rattle.just_execution.specs.Run.{PriorsIgnoreFlag, run_steps}
-use Rattle.just_execution.specs.Scene.{AreAlike, ModuleContents, Scene}
+use Rattle.just_tasks.specs.Scene.{AreAlike, ModuleContents, Scene}
 use Rattle.just_execution.specs.Walking.{TaskInteractions, fresh_steps, walk_steps}
 use Rattle.just_execution.specs.declared.run.Report.{Report}
-use Rattle.just_execution.specs.declared.task.Task.{Task}
-use Rattle.just_execution.proofs.Homes.{All-got}
+use Rattle.just_tasks.specs.declared.task.Task.{Task}
+use Rattle.just_tasks.proofs.Places.{All-got}
 
 -- these recipes in these modules, under a grammar
 abbrev scene : SyntaxAnswers → List (Recipe Dependency) → (Option Modulepath → Option ModuleContents) → Scene

@@ -11,27 +11,15 @@ use Rattle.just_errors.specs.declared.halt.Halt.TheVariants.{Memory, Exhausted}
 use Rattle.just_recipe.specs.declared.recipe.Recipe.{Recipe}
 use Rattle.just_run_layers.specs.Host.{Answer}
 use Rattle.just_run_layers.specs.Interactions.{Log, executed_in, Question, Interaction, Return, Fail, and_then, HasTrace}
-use Rattle.just_execution.specs.declared.pair.Pair.{Pair}
+use Rattle.just_tasks.specs.declared.pair.Pair.{Pair}
 use Rattle.just_execution.specs.Account.{AskedTask, OnceTables, NoMore, Asked, Began, own, begun, executions, AreIn, may_be_asked, AreNamed, AskFits, RunFits, FitsTables, Complete, prior_count, asked_count, counts_below, counts, IsFullBelow, IsFull}
 use Rattle.just_execution.specs.Firsts.{has}
-use Rattle.just_execution.specs.declared.task.Task.{Task}
-use Rattle.just_execution.specs.Pairs.{OnceTable, put_in, same_pair, prior_dependencies, subsequent_dependencies}
+use Rattle.just_tasks.specs.declared.task.Task.{Task}
+use Rattle.just_tasks.specs.Pairs.{OnceTable, put_in, same_pair, prior_dependencies, subsequent_dependencies}
 use Rattle.just_execution.specs.Walking.{State, add_at, counted, opened, ran}
+use Rattle.just_run_layers.proofs.Halts.{ok-is, ok-not, err-is, memory-not}
 use Rattle.just_execution.proofs.Joined.{with_priors, asks, AllLow, AreDone, Settled, AllNamed, join, own-join, priors-join, asked-join, even-join, Complete-join, AllNamed-join, full-join, Fits-join, AllLow-more, has-last, known-more, known-priors, known-all, length-known, length-known_one, length-known_none, length-known_tops, AreDone-join, Settled-low, Settled-then, Settled-asked, unasked, add-twice, count-added, length-added, count-opened, length-opened, joined-counts, block-counts, opened-counts, joined-begun, joined-low, joined-own, joined-asks, none-in, none-below, one-below, has-more}
 use Rattle.just_execution.proofs.Keeps.{has-append, or_false}
-
--- results
-pub ok-is : {A : Type 0} (r : Result A Halt) (x y : A) → r ≡ Ok x → r ≡ Ok y → x ≡ y
-ok-is r x y h k = cc
-
-pub ok-not : {A : Type 0} (r : Result A Halt) (x : A) (e : Halt) → r ≡ Ok x → r ≡ Err e → ⊥
-ok-not r x e h k = cc
-
-pub err-is : {A : Type 0} (r : Result A Halt) (e f : Halt) → r ≡ Err e → r ≡ Err f → e ≡ f
-err-is r e f h k = cc
-
-pub memory-not : Memory ≡ Exhausted → ⊥
-memory-not h = cc
 
 -- where a run stands before some tasks
 pub record Stands (tops : List Task) (before : List AskedTask) (done : List Pair) (bound : ℕ) (s : State) (ts : List Task) : Type 0 where

@@ -13,15 +13,16 @@ use Rattle.just_run_layers.specs.Interactions.{Log, and_then, both, log_of}
 use Rattle.just_run_layers.proofs.InteractionLemmas.{took-gives}
 use Rattle.just_execution.specs.Account.{AreNamed}
 use Rattle.just_execution.specs.TaskInteractions.{ask_in, ask_steps, follow_in, follow_steps, after_steps, held_steps, interactions_of, parameters_steps, prepare_steps}
-use Rattle.just_execution.specs.loops.TaskInteractions.{AsksAlone, Prepares}
+use Rattle.just_run_layers.specs.loops.Interactions.{AsksAlone}
+use Rattle.just_execution.specs.loops.TaskInteractions.{Prepares}
 use Rattle.just_execution.specs.loops.Lower.{IsLower}
-use Rattle.just_execution.specs.declared.task.Task.{Task}
-use Rattle.just_execution.specs.Pairs.{AllBelow, prior_dependencies, subsequent_dependencies}
+use Rattle.just_tasks.specs.declared.task.Task.{Task}
+use Rattle.just_tasks.specs.Pairs.{AllBelow, prior_dependencies, subsequent_dependencies}
 use Rattle.just_recipe.specs.Recipes.{IsOrdered}
-use Rattle.just_execution.specs.Scene.{ModuleContents, Scene}
+use Rattle.just_tasks.specs.Scene.{ModuleContents, Scene}
 use Rattle.just_execution.specs.Walking.{Prepared}
 use Rattle.just_execution.proofs.Asked.{ask-named, follow-named, named-all}
-use Rattle.just_execution.proofs.Places.{IsBefore, priors-before, subsequents-before}
+use Rattle.just_tasks.proofs.Places.{IsBefore, priors-before, subsequents-before}
 
 -- where the recipe of a task and its module are there, this is what is asked
 module _ (scene : Scene) (t : Task) (r : Recipe Dependency) (m : ModuleContents) (at : slice_get scene.recipes t.pair.recipe ≡ Some r) (there : scene.modules r.module_path ≡ Some m) where

@@ -14,14 +14,15 @@ use Rattle.just_run_layers.specs.Interactions.{Log, Interaction, Return, HasTrac
 use Rattle.just_run_layers.proofs.InteractionLemmas.{keeps-both, keeps-self, took-stop, took-then}
 use Rattle.just_execution.specs.Arguments.{dependencies_steps}
 use Rattle.just_execution.specs.TaskInteractions.{consent_by, consent_steps, follow_steps, held_steps, parameters_steps, prior_steps, surrounded}
-use Rattle.just_execution.specs.loops.TaskInteractions.{AsksAlone, Prepares}
-use Rattle.just_execution.specs.Pairs.{prior_dependencies, subsequent_dependencies}
-use Rattle.just_execution.specs.Scene.{ModuleContents, Scene}
+use Rattle.just_run_layers.specs.loops.Interactions.{AsksAlone}
+use Rattle.just_execution.specs.loops.TaskInteractions.{Prepares}
+use Rattle.just_tasks.specs.Pairs.{prior_dependencies, subsequent_dependencies}
+use Rattle.just_tasks.specs.Scene.{ModuleContents, Scene}
 use Rattle.just_execution.specs.Walking.{Prepared}
-use Rattle.just_execution.specs.declared.task.Task.{Task}
+use Rattle.just_tasks.specs.declared.task.Task.{Task}
 use Rattle.just_execution.proofs.Gathered.{alone-map, alone-stop}
 use Rattle.just_execution.proofs.TaskInteractions.{ask-is, follow-is}
-use Rattle.just_execution.proofs.Places.{at-place}
+use Rattle.just_tasks.proofs.Places.{at-place}
 
 -- the dependencies that run before a recipe, and after it
 pub priors-are : (rs : List (Recipe Dependency)) (k : ℕ) (r : Recipe Dependency) → slice_get rs k ≡ Some r → (ds : List Dependency) → ds ≡ prior_dependencies rs k → ds ≡ take r.priors r.dependencies

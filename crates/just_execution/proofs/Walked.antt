@@ -9,12 +9,12 @@ use Rattle.just_run_layers.specs.Host.{Answer}
 use Rattle.just_run_layers.specs.declared.held.Held.{Held}
 use Rattle.just_run_layers.specs.Interactions.{Question, Interaction, Return, Fail, and_then, CanReturn, trace_under, result_under}
 use Rattle.just_run_layers.proofs.InteractionLemmas.{then-assoc, then-give}
-use Rattle.just_execution.specs.declared.pair.Pair.{Pair}
+use Rattle.just_tasks.specs.declared.pair.Pair.{Pair}
 use Rattle.just_execution.specs.Expansion.{Part, Prepare, Block, part_key}
 use Rattle.just_execution.specs.Firsts.{has}
 use Rattle.just_execution.specs.loops.Lower.{IsLower}
-use Rattle.just_execution.specs.declared.task.Task.{Task}
-use Rattle.just_execution.specs.Pairs.{same_pair, put_in, once_key, AllBelow}
+use Rattle.just_tasks.specs.declared.task.Task.{Task}
+use Rattle.just_tasks.specs.Pairs.{same_pair, put_in, once_key, AllBelow}
 use Rattle.just_execution.specs.Run.{tasks_in, priors_in, priors_by, subsequents_after, subsequents_by, block_run, part_steps, in_turn, Each}
 use Rattle.just_execution.proofs.Walks.{blocks, walk, walks}
 use Rattle.just_execution.specs.Walking.{TaskInteractions, Prepared, State, counted, all_steps, opened, fresh_steps, block_steps, ran, ran_steps, visit_steps, walk_steps}

@@ -8,8 +8,8 @@ use Rattle.just_execution.specs.declared.frame.Frame.{Frame}
 use Rattle.just_execution.specs.declared.frame.Frame.TheVariants.{Call, Block, Back}
 use Rattle.just_execution.specs.declared.frame.OpenTable.{OpenTable}
 use Rattle.just_execution.specs.loops.Frames.{calls_of, cost, frame_weight, weight}
-use Rattle.just_execution.specs.declared.task.Task.{Task}
-use Rattle.just_execution.specs.Pairs.{AllBelow}
+use Rattle.just_tasks.specs.declared.task.Task.{Task}
+use Rattle.just_tasks.specs.Pairs.{AllBelow}
 
 module _ (most : ℕ) where
   pub weight-append : (xs ys : List Frame) → weight most (xs ++ ys) ≡ weight most xs + weight most ys

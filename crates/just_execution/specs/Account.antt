@@ -10,10 +10,10 @@ use Rattle.just_errors.specs.declared.halt.Halt.{Halt}
 use Rattle.just_errors.specs.declared.halt.Halt.TheVariants.{Memory, Exhausted, Failed}
 use Rattle.just_recipe.specs.declared.recipe.Recipe.{Recipe}
 use Rattle.just_run_layers.specs.Host.{Executed}
-use Rattle.just_execution.specs.declared.pair.Pair.{Pair}
+use Rattle.just_tasks.specs.declared.pair.Pair.{Pair}
 use Rattle.just_execution.specs.Firsts.{has}
-use Rattle.just_execution.specs.declared.task.Task.{Task}
-use Rattle.just_execution.specs.Pairs.{same_pair, prior_dependencies, subsequent_dependencies}
+use Rattle.just_tasks.specs.declared.task.Task.{Task}
+use Rattle.just_tasks.specs.Pairs.{same_pair, prior_dependencies, subsequent_dependencies}
 use Rattle.just_recipes.specs.Places.{place_of}
 
 -- a task that was asked, with its priors (none where asking for them failed)

@@ -2,9 +2,8 @@
 use Rattle.std.specs.Prelude.{ℕ, Bool, true, cond, List, [], ◌∷◌, ◌++◌, map, codes, get_or, set, Option, None, Some}
 use Rattle.std.specs.List.{position}
 use Rattle.just_ast_expressions.specs.declared.expression.Expression.{Expression}
-use Rattle.just_errors.specs.declared.halt.Halt.{Halt}
-use Rattle.just_errors.specs.declared.halt.Halt.TheVariants.{Memory, Failed}
-use Rattle.just_errors.specs.declared.run_error.RunError.TheVariants.{Evaluate}
+use Rattle.just_errors.specs.declared.halt.Halt.TheVariants.{Memory}
+use Rattle.just_errors.specs.Halts.{unevaluated}
 use Rattle.just_names.specs.Texts.{Text, joined}
 use Rattle.just_recipe.specs.Starred.{has_star}
 use Rattle.just_recipe.specs.declared.dependency.Dependency.{Dependency}
@@ -13,13 +12,9 @@ use Rattle.just_recipe.specs.declared.recipe.Recipe.{Recipe}
 use Rattle.just_run_layers.specs.Evaluation.{Surroundings, Value}
 use Rattle.just_run_layers.specs.Host.{Answer, Valued, Refused}
 use Rattle.just_run_layers.specs.Interactions.{Interaction, Return, Fail, Ask, ToEvaluator, and_then}
-use Rattle.just_execution.specs.Pairs.{task}
-use Rattle.just_execution.specs.declared.task.Task.{Task}
+use Rattle.just_tasks.specs.Pairs.{task}
+use Rattle.just_tasks.specs.declared.task.Task.{Task}
 use Rattle.just_recipes.specs.Places.{place_of}
-
--- the evaluator has no answer, with what it says of that
-abbrev pub unevaluated : Text → Halt
-unevaluated message = Failed (Evaluate (record { message = message }))
 
 -- steps for each of some things in turn, and all that they come to in one list
 abbrev pub gathered : {A B : Type 0} → (A → Interaction (List B)) → List A → Interaction (List B)

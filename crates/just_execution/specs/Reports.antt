@@ -11,13 +11,13 @@ use Rattle.just_run_layers.specs.Evaluation.{Inquiry}
 use Rattle.just_run_layers.specs.Host.{Answer}
 use Rattle.just_run_layers.specs.Interactions.{Log, Question, Interaction, HasTrace, both, trace_under, result_under, ArePromised, IsTraceOrPrefix}
 use Rattle.just_execution.specs.declared.run.Report.{Report}
-use Rattle.just_execution.specs.declared.task.Task.{Task}
+use Rattle.just_tasks.specs.declared.task.Task.{Task}
 use Rattle.just_execution.specs.Account.{OnceTables, HasAccount, SaysOfTables}
 use Rattle.just_execution.specs.Expansion.{Prepare}
 use Rattle.just_execution.specs.TaskInteractions.{interactions_of}
-use Rattle.just_execution.specs.Pairs.{AllBelow}
+use Rattle.just_tasks.specs.Pairs.{AllBelow}
 use Rattle.just_execution.specs.Run.{run_parts, run_steps, PriorsIgnoreFlag}
-use Rattle.just_execution.specs.Scene.{Scene}
+use Rattle.just_tasks.specs.Scene.{Scene}
 use Rattle.just_execution.specs.Walking.{TaskInteractions, fresh_steps, walk_steps}
 
 -- the counts of a run that succeeds

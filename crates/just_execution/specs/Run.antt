@@ -5,8 +5,8 @@ use Rattle.just_run_layers.specs.Host.{Answer}
 use Rattle.just_run_layers.specs.Interactions.{Question, Interaction, Return, Fail, and_then, result_under}
 use Rattle.just_execution.specs.Expansion.{Part, Prepare, Block, same_part, part_key, expansion}
 use Rattle.just_execution.specs.Firsts.{firsts_by}
-use Rattle.just_execution.specs.declared.task.Task.{Task}
-use Rattle.just_execution.specs.Pairs.{same_pair, once_key, task}
+use Rattle.just_tasks.specs.declared.task.Task.{Task}
+use Rattle.just_tasks.specs.Pairs.{same_pair, once_key, task}
 use Rattle.just_execution.specs.Walking.{TaskInteractions, Prepared}
 
 -- the tasks that steps come to, and none where they fail

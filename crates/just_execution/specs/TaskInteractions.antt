@@ -19,9 +19,10 @@ use Rattle.just_run_layers.specs.Interactions.{Log, Question, Interaction, Retur
 use Rattle.just_recipe_body.specs.Body.{BodyContents, body_name}
 use Rattle.just_recipe_body.specs.Confirmation.{confirm_steps}
 use Rattle.just_recipe_run.specs.RecipeRun.{recipe_steps}
-use Rattle.just_execution.specs.Arguments.{dependencies_steps, unevaluated}
-use Rattle.just_execution.specs.declared.task.Task.{Task}
-use Rattle.just_execution.specs.Scene.{ModuleContents, Scene}
+use Rattle.just_errors.specs.Halts.{unevaluated}
+use Rattle.just_execution.specs.Arguments.{dependencies_steps}
+use Rattle.just_tasks.specs.declared.task.Task.{Task}
+use Rattle.just_tasks.specs.Scene.{ModuleContents, Scene}
 use Rattle.just_execution.specs.Walking.{TaskInteractions, Prepared}
 
 -- what is held for a task: what its recipe's parameters come to, by the texts of its groups

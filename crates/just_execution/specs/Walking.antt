@@ -3,8 +3,8 @@ use Rattle.std.specs.Prelude.{◌==◌, ◌^◌, ◌+◌, ℕ, zero, suc, cond, 
 use Rattle.just_errors.specs.declared.halt.Halt.TheVariants.{Exhausted}
 use Rattle.just_run_layers.specs.Interactions.{Interaction, Return, Fail, and_then}
 use Rattle.just_run_layers.specs.declared.held.Held.{Held}
-use Rattle.just_execution.specs.declared.task.Task.{Task}
-use Rattle.just_execution.specs.Pairs.{OnceTable, nothing_ran, put_in}
+use Rattle.just_tasks.specs.declared.task.Task.{Task}
+use Rattle.just_tasks.specs.Pairs.{OnceTable, nothing_ran, put_in}
 
 -- what asking for a task comes to: what is held for its block, and its priors
 pub record Prepared : Type 0 where

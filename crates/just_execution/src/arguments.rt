@@ -10,19 +10,16 @@ ghost use Rattle.just_execution.specs.Arguments.{argument_steps, dependencies_st
 ghost use Rattle.just_execution.specs.loops.Arguments.{AreReadableGroups, AreReadableArguments, IsGivenIn, IsReadableArgument};
 ghost use Rattle.just_execution.specs.loops.Frames.{items_of_frames};
 ghost use Rattle.just_execution.specs.TaskInteractions.{surrounded};
-ghost use Rattle.just_execution.specs.loops.TaskInteractions.{AsksAlone};
-ghost use Rattle.just_execution.specs.Scene.{contents_of};
+ghost use Rattle.just_run_layers.specs.loops.Interactions.{AsksAlone};
+ghost use Rattle.just_tasks.specs.Scene.{contents_of};
 
-use crate::pair::Pair;
-use crate::recipes::place_in;
-use crate::scopes::ModuleScope;
-use crate::task::Task;
 use just_data::{Sequence, Text};
 use just_errors::Refusal;
 use just_parts::Dependency;
 use just_parts::layers::{DependencyArgument, Expression, Halt, RunError, Scope, joined};
 use just_recipes::Recipes;
 use just_run_layers::{Context, Evaluation, Groups, Held};
+use just_tasks::{ModuleScope, Pair, Task, place_in};
 use std::alloc::{AllocError, Global};
 use std::mem::replace;
 

@@ -2,18 +2,17 @@
 ghost use Rattle.std.specs.Prelude.{◌≡◌};
 ghost use Rattle.just_execution.specs.loops.Homes.{ServesIn};
 ghost use Rattle.just_execution.specs.TaskInteractions.{consent_by, consent_steps};
-ghost use Rattle.just_execution.specs.Scene.{contents_of};
+ghost use Rattle.just_tasks.specs.Scene.{contents_of};
 ghost use Rattle.just_run_layers.specs.Host.{KeepsPromises};
 ghost use Rattle.just_run_layers.specs.Interactions.{HasTrace, both, log_of};
 
-use crate::scopes::ModuleScope;
-use crate::task::Task;
 use just_data::BorrowedText;
 use just_parts::Recipe;
 use just_parts::layers::{Halt, RunError, Syntax};
 use just_recipe_body::body::Body;
 use just_recipe_body::confirmation::confirm;
 use just_run_layers::{Evaluation, Held, Host};
+use just_tasks::{ModuleScope, Task};
 use std::alloc::Global;
 
 /// Asks whether a task may run, by what is held for it, unless the configuration says yes to all. A task whose recipe is not

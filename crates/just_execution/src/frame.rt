@@ -1,6 +1,6 @@
 use crate::once::Once;
-use crate::task::Task;
 use just_run_layers::Held;
+use just_tasks::Task;
 
 /// A once table that is open, and the number of its counter.
 #[derive(Drop)]

@@ -5,14 +5,14 @@ ghost use Rattle.just_errors.specs.declared.halt.Halt.{Halt};
 ghost use Rattle.just_run_layers.specs.declared.host.Entry.{Entry};
 ghost use Rattle.just_run_layers.specs.Host.{Answer};
 ghost use Rattle.just_run_layers.specs.Interactions.{Question, IsTraceOrPrefix};
-ghost use Rattle.just_execution.specs.declared.task.Task.{Task};
+ghost use Rattle.just_tasks.specs.declared.task.Task.{Task};
 ghost use Rattle.just_execution.specs.Expansion.{Block};
 ghost use Rattle.just_execution.specs.TaskInteractions.{IsAlike, interactions_of};
-ghost use Rattle.just_execution.specs.Pairs.{AllBelow};
+ghost use Rattle.just_tasks.specs.Pairs.{AllBelow};
 ghost use Rattle.just_recipe.specs.Recipes.{IsOrdered};
 ghost use Rattle.just_execution.specs.Reports.{IsEnough, IsFirstAsked, AgreeUnlessResourceError};
 ghost use Rattle.just_execution.specs.Run.{PriorsIgnoreFlag, run_parts};
-ghost use Rattle.just_execution.specs.Scene.{AreAlike, Scene};
+ghost use Rattle.just_tasks.specs.Scene.{AreAlike, Scene};
 
 /// An expected run with as much fuel as there are recipes is whole: more fuel changes nothing.
 pub fn enough_fuel()

@@ -1,8 +1,8 @@
 ghost use Rattle.std.specs.Prelude.{◌≡◌, [], OnOk, OnErr};
-ghost use Rattle.just_execution.specs.Pairs.{put_in};
+ghost use Rattle.just_tasks.specs.Pairs.{put_in};
 ghost use Rattle.just_execution.specs.loops.Pairs.{table_of};
 
-use crate::pair::Pair;
+use just_tasks::Pair;
 use std::alloc::{AllocError, Global};
 use std::collections::BTreeSet;
 use std::marker::Model;
@@ -15,7 +15,7 @@ pub struct Once {
 
 impl Model for Once {
     ghost use Rattle.std.specs.Prelude.{List};
-    ghost use Rattle.just_execution.specs.declared.pair.Pair.{Pair};
+    ghost use Rattle.just_tasks.specs.declared.pair.Pair.{Pair};
 
     ghost Value = { List Pair };
 

@@ -9,19 +9,18 @@ ghost use Rattle.just_run_layers.specs.Interactions.{log_of};
 ghost use Rattle.just_execution.specs.loops.Frames.{items_of_frames};
 ghost use Rattle.just_execution.specs.loops.Homes.{IsCallable, IsServed};
 ghost use Rattle.just_execution.specs.TaskInteractions.{follow_steps, parameters_steps};
-ghost use Rattle.just_execution.specs.loops.TaskInteractions.{AsksAlone, Prepares, prepared_of};
-ghost use Rattle.just_execution.specs.Scene.{contents_of, scene_in};
+ghost use Rattle.just_run_layers.specs.loops.Interactions.{AsksAlone};
+ghost use Rattle.just_execution.specs.loops.TaskInteractions.{Prepares, prepared_of};
+ghost use Rattle.just_tasks.specs.Scene.{contents_of, scene_in};
 
 use crate::arguments::ask_dependencies;
 use crate::consent::ask_consent;
-use crate::recipes::{priors_in, recipe_at, subsequents_in};
-use crate::scopes::{ModuleScope, Scopes, module_of};
-use crate::task::Task;
 use just_errors::Refusal;
 use just_parts::Recipe;
 use just_parts::layers::{Halt, RunError, Syntax};
 use just_recipes::Recipes;
 use just_run_layers::{Evaluation, Held, Host};
+use just_tasks::{ModuleScope, Scopes, Task, module_of, priors_in, recipe_at, subsequents_in};
 use std::alloc::Global;
 
 /// What asking for a task comes to.

@@ -5,24 +5,22 @@ ghost use Rattle.just_run_layers.specs.Host.{KeepsPromises};
 ghost use Rattle.just_run_layers.specs.LineTexts.{AgreesWith};
 ghost use Rattle.just_run_layers.specs.Interactions.{log_of};
 ghost use Rattle.just_execution.specs.loops.Frames.{SimulatesBlock, SimulatesCall, SimulatesRest, IsLighter, IsSoundFrameIn, IsSoundIn, SimulatesFrame};
-ghost use Rattle.just_execution.specs.Homes.{AllHaveModuleScope};
+ghost use Rattle.just_tasks.specs.Homes.{AllHaveModuleScope};
 ghost use Rattle.just_execution.specs.loops.Homes.{IsCallable, IsServed};
 ghost use Rattle.just_execution.specs.TaskInteractions.{Executes};
-ghost use Rattle.just_execution.specs.Pairs.{AllBelow};
+ghost use Rattle.just_tasks.specs.Pairs.{AllBelow};
 ghost use Rattle.just_recipe.specs.Recipes.{IsOrdered, IsResolved};
 ghost use Rattle.just_execution.specs.Reports.{TasksRunAsExpected, IsRun, HasRunTrace};
-ghost use Rattle.just_execution.specs.Scene.{running, scene_in};
+ghost use Rattle.just_tasks.specs.Scene.{running, scene_in};
 
 use crate::frame::Frame;
 use crate::questions::{Preparation, ask, follow};
-use crate::recipes::recipe_at;
 use crate::run_state::{RunState, count_call, push_calls};
-use crate::scopes::{Scopes, module_of};
-use crate::task::Task;
 use just_parts::layers::{Halt, Syntax};
 use just_recipe_run::RunRecipe;
 use just_recipes::Recipes;
 use just_run_layers::{Evaluation, Held, Host};
+use just_tasks::{Scopes, Task, module_of, recipe_at};
 use std::alloc::Global;
 
 /// How often a recipe was called under each once table, in the order of opening.

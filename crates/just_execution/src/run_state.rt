@@ -4,8 +4,8 @@ ghost use Rattle.just_execution.specs.Walking.{add_at};
 
 use crate::frame::{Frame, OpenTable};
 use crate::once::Once;
-use crate::task::Task;
 use just_parts::layers::Halt;
+use just_tasks::Task;
 use std::alloc::{AllocError, Global};
 use std::mem::replace;
 

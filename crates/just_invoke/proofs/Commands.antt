@@ -9,7 +9,7 @@ use Rattle.just_errors.specs.Halts.{come_to, error_of, discard_value}
 use Rattle.just_errors.specs.declared.error.Error.{Error}
 use Rattle.just_errors.specs.declared.halt.Halt.{Halt}
 use Rattle.just_errors.specs.declared.halt.Halt.TheVariants.{Memory}
-use Rattle.just_execution.proofs.Quiet.{executed-append}
+use Rattle.just_run_layers.proofs.Quiet.{executed-append}
 use Rattle.just_execution.specs.declared.run.Report.{Report}
 use Rattle.just_justfile.specs.declared.justfile.Justfile.{Justfile}
 use Rattle.just_names.specs.declared.number.Number.{Number}

@@ -1,13 +1,5 @@
-pub mod Advancing
 pub mod Commands
-pub mod Decides
 pub mod Evaluations
-pub mod Faults
-pub mod HeadLemmas
-pub mod Holding
 pub mod Namings
 pub mod Outcomes
-pub mod Readings
-pub mod SplitLemmas
-pub mod Unique
 pub mod Wholes

@@ -18,15 +18,15 @@ use Rattle.just_run_layers.specs.Host.{Answer}
 use Rattle.just_execution.specs.declared.run.Report.{Report}
 use Rattle.just_justfile.specs.declared.justfile.Justfile.{Justfile}
 use Rattle.just_scopes.specs.Opening.{Setup}
-use Rattle.just_invoke.specs.Cause as cause
+use Rattle.just_invocations.specs.Cause as cause
 use Rattle.just_invoke.specs.Results as going
 use Rattle.just_invoke.specs.Results.{RunEndsAs}
 use Rattle.just_invoke.specs.Outcome.{IsOutcome, IsRunnable, IsRunRefusal, excess, fault, memory, ran, refused, shut, tops}
 use Rattle.just_invoke.specs.loops.Outcome.{IsExcess}
-use Rattle.just_invoke.specs.Split.{Counts, Invoked, IsSplit, HasWordsFault}
+use Rattle.just_invocations.specs.Split.{Counts, Invoked, IsSplit, HasWordsFault}
 use Rattle.just_invoke.specs.Whole.{IsWholeRun}
-use Rattle.just_invoke.proofs.Faults.{split_no_fault}
-use Rattle.just_invoke.proofs.Unique.{split_once}
+use Rattle.just_invocations.proofs.Faults.{split_no_fault}
+use Rattle.just_invocations.proofs.Unique.{split_once}
 use Rattle.just_invoke.proofs.Wholes.{is-whole}
 
 -- what is expected where these are invoked

@@ -1,12 +1,7 @@
-pub mod Cause
 pub mod Command
 pub mod Evaluation
-pub mod Head
 pub mod Lazily
-pub mod Meaning
 pub mod Outcome
 pub mod Results
-pub mod Split
 pub mod Whole
-pub mod Words
 pub mod loops

@@ -13,16 +13,16 @@ use Rattle.just_errors.specs.Halts.{come_to, error_of}
 use Rattle.just_run_layers.specs.Evaluation.{Inquiry}
 use Rattle.just_run_layers.specs.Host.{Answer}
 use Rattle.just_execution.specs.declared.run.Report.{Report}
-use Rattle.just_execution.specs.declared.task.Task.{Task}
-use Rattle.just_execution.specs.Pairs.{task}
+use Rattle.just_tasks.specs.declared.task.Task.{Task}
+use Rattle.just_tasks.specs.Pairs.{task}
 use Rattle.just_recipes.specs.Places.{place_of}
 use Rattle.just_execution.specs.Reports.{IsRun, HasRunTrace}
-use Rattle.just_execution.specs.Scene.{running}
+use Rattle.just_tasks.specs.Scene.{running}
 use Rattle.just_scopes.specs.Open.{Opens}
 use Rattle.just_scopes.specs.Opening.{Opened, Setup, scene_of}
 use Rattle.just_justfile.specs.declared.justfile.Justfile.{Justfile}
-use Rattle.just_invoke.specs.Cause.{InvocationFault, cause_of}
-use Rattle.just_invoke.specs.Split.{Counts, Invoked, IsSplit, HasWordsFault}
+use Rattle.just_invocations.specs.Cause.{InvocationFault, cause_of}
+use Rattle.just_invocations.specs.Split.{Counts, Invoked, IsSplit, HasWordsFault}
 use Rattle.just_invoke.specs.Whole.{HasOpened, IsWholeRun}
 
 -- the task of what is invoked: it does not run as a dependency

@@ -5,9 +5,9 @@ use Rattle.just_errors.specs.declared.error.Error.{Error}
 use Rattle.just_errors.specs.declared.error.Error.TheVariants.{Memory}
 use Rattle.just_errors.specs.declared.halt.Halt.{Halt}
 use Rattle.just_execution.specs.Reports.{TasksRunAsExpected, IsRun, HasRunTrace}
-use Rattle.just_execution.specs.Scene.{Scene, running}
+use Rattle.just_tasks.specs.Scene.{Scene, running}
 use Rattle.just_execution.specs.declared.run.Report.{Report}
-use Rattle.just_execution.specs.declared.task.Task.{Task}
+use Rattle.just_tasks.specs.declared.task.Task.{Task}
 use Rattle.just_justfile.specs.declared.justfile.Justfile.{Justfile}
 use Rattle.just_recipe.specs.declared.dependency.Dependency.{Dependency}
 use Rattle.just_recipe.specs.declared.recipe.Recipe.{Recipe}

@@ -1,6 +1,6 @@
 ghost use Rattle.std.specs.Prelude.{◌<◌, length, map};
 ghost use Rattle.std.specs.List.{All};
-ghost use Rattle.just_execution.specs.Pairs.{AllBelow};
+ghost use Rattle.just_tasks.specs.Pairs.{AllBelow};
 ghost use Rattle.just_justfile.specs.Closed.{IsHeld};
 ghost use Rattle.just_justfile.specs.declared.justfile.Justfile.{Justfile};
 ghost use Rattle.just_justfile.specs.Running.{CanRun, HoldsOverridden, TellsBareLines};
@@ -10,20 +10,21 @@ ghost use Rattle.just_run_layers.specs.LineTexts.{AgreesWith};
 ghost use Rattle.just_run_layers.specs.Interactions.{log_of};
 ghost use Rattle.just_scopes.specs.Open.{AreOpenModules};
 ghost use Rattle.just_scopes.specs.Opening.{opened_of, setup_of};
-ghost use Rattle.just_invoke.specs.declared.invocation.Invocation.{Invocation};
+ghost use Rattle.just_invocations.specs.declared.invocation.Invocation.{Invocation};
 ghost use Rattle.just_invoke.specs.Results.{RunEndsAs};
 ghost use Rattle.just_invoke.specs.loops.Results.{RunsOpen};
 ghost use Rattle.just_invoke.specs.loops.Outcome.{tops_of};
 
-use crate::invocation::Invocation;
 use crate::tops::name_tops;
 use just_data::Text;
-use just_execution::{Report, Task, run_tasks};
+use just_execution::{Report, run_tasks};
+use just_invocations::Invocation;
 use just_justfile::Justfile;
 use just_parts::layers::{Config, Error, Halt, Number, Syntax};
 use just_recipes::Recipes;
 use just_run_layers::{Evaluation, Host};
 use just_scopes::{OpenedModule, open_modules, scopes_of};
+use just_tasks::Task;
 use std::alloc::Global;
 use std::collections::HashMap;
 

@@ -13,11 +13,10 @@ ghost use Rattle.just_invoke.specs.loops.Outcome.{IsExcess};
 
 use crate::command_run::run_command;
 use crate::evaluate_run::run_evaluate;
-use crate::invocation::Invocation;
-use crate::invocation_parser::InvocationParser;
 use crate::open_run::run_invocations;
 use just_data::Text;
 use just_execution::Report;
+use just_invocations::{Invocation, InvocationParser};
 use just_justfile::Justfile;
 use just_parts::layers::{Config, Error, Number, Output, RunError, Subcommand, Syntax};
 use just_recipes::Recipes;

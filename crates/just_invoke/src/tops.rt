@@ -1,14 +1,14 @@
 ghost use Rattle.std.specs.Prelude.{◌≡◌, length, IfOk};
 ghost use Rattle.std.specs.List.{All};
-ghost use Rattle.just_execution.specs.Pairs.{AllBelow};
-ghost use Rattle.just_invoke.specs.declared.invocation.Invocation.{Invocation};
+ghost use Rattle.just_tasks.specs.Pairs.{AllBelow};
+ghost use Rattle.just_invocations.specs.declared.invocation.Invocation.{Invocation};
 ghost use Rattle.just_justfile.specs.Closed.{IsHeld};
 ghost use Rattle.just_invoke.specs.loops.Outcome.{tops_of};
 
 use crate::groups::copy_groups;
-use crate::invocation::Invocation;
-use just_execution::{Pair, Task};
+use just_invocations::Invocation;
 use just_recipes::Recipes;
+use just_tasks::{Pair, Task};
 use std::alloc::{AllocError, Global};
 
 /// The tasks of invocations.

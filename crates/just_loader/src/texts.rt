@@ -57,8 +57,12 @@ pub(crate) fn unless_exhausted<'src, T>(
 {
     match answer {
         Ok(value) => Ok(Some(value)),
-        Err(Error::Exhausted) => Ok(None),
-        Err(error) => Err(error),
+        Err(error) => {
+            if let Error::Exhausted = &error {
+                return Ok(None);
+            }
+            Err(error)
+        }
     }
 }
 

@@ -2,9 +2,9 @@
 use Rattle.std.proofs.Common.{ℕ, zero, suc, ◌<◌, List, [], ◌∷◌, length, refl, sym, ◌∙◌, subst, arith}
 use Rattle.std.proofs.lemmas.List.FromFn.{get_or-range_with_len, length-range_with_len}
 use Rattle.std.specs.List.{Contains, range_with_len}
-use Rattle.just_execution.specs.Leading.{DependsOnPlace, LeadTo, places}
-use Rattle.just_execution.specs.Pairs.{at_place, needed}
-use Rattle.just_execution.specs.declared.task.Task.{Task}
+use Rattle.just_tasks.specs.Leading.{DependsOnPlace, LeadTo, places}
+use Rattle.just_tasks.specs.Pairs.{at_place, needed}
+use Rattle.just_tasks.specs.declared.task.Task.{Task}
 use Rattle.just_graph.proofs.Members.{In, contained, from_map, is_in}
 use Rattle.just_graph.specs.Steps.{from_member, from_start}
 use Rattle.just_recipe.specs.declared.dependency.Dependency.{Dependency}

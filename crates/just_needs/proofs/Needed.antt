@@ -5,8 +5,8 @@ use Rattle.std.proofs.lemmas.Bool.Decides.{same_from_decides}
 use Rattle.std.proofs.lemmas.Option.{slice_get_within}
 use Rattle.std.specs.List.{slice_get}
 use Rattle.just_ast_definitions.specs.declared.assignment.Assignment.{Assignment}
-use Rattle.just_execution.specs.Leading.{LeadTo}
-use Rattle.just_execution.specs.declared.task.Task.{Task}
+use Rattle.just_tasks.specs.Leading.{LeadTo}
+use Rattle.just_tasks.specs.declared.task.Task.{Task}
 use Rattle.just_graph.proofs.Members.{In, contained, is_in}
 use Rattle.just_justfile.specs.Closed.{StandsIn}
 use Rattle.just_justfile.specs.Running.{IsReadBy, arguments_of, known_by_tables}

@@ -1,6 +1,6 @@
 //! Laws: calls that do nothing, whose contracts say what definitions keep.
 ghost use Rattle.std.specs.Prelude.{◌≡◌, Bool, List};
-ghost use Rattle.just_execution.specs.declared.task.Task.{Task};
+ghost use Rattle.just_tasks.specs.declared.task.Task.{Task};
 ghost use Rattle.just_justfile.specs.Closed.{StandsIn};
 ghost use Rattle.just_justfile.specs.declared.justfile.Justfile.{Justfile};
 ghost use Rattle.just_parts.specs.Syntax.{SyntaxAnswers};

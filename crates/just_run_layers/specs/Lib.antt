@@ -3,3 +3,4 @@ pub mod Evaluation
 pub mod Host
 pub mod LineTexts
 pub mod Interactions
+pub mod loops

@@ -9,10 +9,10 @@ use Rattle.std.proofs.lemmas.Slice.Eq.{bytes_eq-Decides}
 use Rattle.just_ast_definitions.specs.declared.assignment.Assignment.{Assignment}
 use Rattle.just_ast_expressions.specs.declared.scope.Binding.{Binding}
 use Rattle.just_ast_expressions.specs.declared.scope.Scope.{Scope}
-use Rattle.just_execution.specs.Homes.{IsRead}
-use Rattle.just_execution.specs.Leading.{LeadTo}
-use Rattle.just_execution.specs.declared.task.Task.{Task}
-use Rattle.just_execution.proofs.Homes.{All-got}
+use Rattle.just_tasks.specs.Homes.{IsRead}
+use Rattle.just_tasks.specs.Leading.{LeadTo}
+use Rattle.just_tasks.specs.declared.task.Task.{Task}
+use Rattle.just_tasks.proofs.Places.{All-got}
 use Rattle.just_graph.proofs.Members.{In, contained, from_reverse}
 use Rattle.just_justfile.specs.Closed.{IsPlaced, StandsIn}
 use Rattle.just_justfile.specs.Running.{CanRun, HoldsOverridden, TellsBareLines, arguments_of, known_by_tables}

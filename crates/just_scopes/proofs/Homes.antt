@@ -2,11 +2,11 @@
 use Rattle.std.proofs.Common.{◌≡◌, ◌∙◌, ◌&&◌, Bool, true, false, cond, List, [], ◌∷◌, Option, Some, None, IsSome, refl, sym, ap, subst, inl, inr}
 use Rattle.std.specs.List.{All}
 use Rattle.std.specs.Option.{option_map, option_or}
-use Rattle.just_execution.specs.Homes.{AllHaveModuleScope, IsRead, Modules, arguments_of, module_scope_at}
-use Rattle.just_execution.specs.Scene.{ModuleContents, contents_found, contents_of, running}
-use Rattle.just_execution.specs.Scene as scenes
-use Rattle.just_execution.specs.declared.scopes.ModuleScope.{ModuleScope}
-use Rattle.just_execution.specs.declared.task.Task.{Task}
+use Rattle.just_tasks.specs.Homes.{AllHaveModuleScope, IsRead, Modules, arguments_of, module_scope_at}
+use Rattle.just_tasks.specs.Scene.{ModuleContents, contents_found, contents_of, running}
+use Rattle.just_tasks.specs.Scene as scenes
+use Rattle.just_tasks.specs.declared.scopes.ModuleScope.{ModuleScope}
+use Rattle.just_tasks.specs.declared.task.Task.{Task}
 use Rattle.just_graph.proofs.Members.{In, contained, is_in}
 use Rattle.just_justfile.specs.declared.justfile.Justfile.{Justfile, out-Justfile}
 use Rattle.just_name_resolution.proofs.Placed.{the_value}

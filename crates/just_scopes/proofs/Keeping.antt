@@ -4,8 +4,8 @@ use Rattle.std.specs.Prelude.{Result}
 use Rattle.std.proofs.lemmas.List.{append-nil, append_assoc}
 use Rattle.just_ast_expressions.specs.declared.scope.Scope.{Scope}
 use Rattle.just_errors.specs.declared.halt.Halt.{Halt}
-use Rattle.just_execution.proofs.Quiet.{Quiet, failed-not, quiet-then, took-quiet}
-use Rattle.just_execution.proofs.Standing.{memory-not}
+use Rattle.just_run_layers.proofs.Halts.{failed-not, memory-not}
+use Rattle.just_run_layers.proofs.Quiet.{Quiet, quiet-then, took-quiet}
 use Rattle.just_errors.specs.declared.run_error.RunError.TheVariants.{Dotenv, Evaluate}
 use Rattle.just_justfile.specs.declared.justfile.Justfile.{Justfile}
 use Rattle.just_run_layers.proofs.InteractionLemmas.{took-split}

@@ -5,8 +5,8 @@ use Rattle.std.proofs.lemmas.Bool.{cases_Bool, or_cases}
 use Rattle.std.specs.List.{slice_get}
 use Rattle.just_ast_definitions.specs.declared.assignment.Assignment.{Assignment}
 use Rattle.just_ast_expressions.specs.declared.expression.Expression.{Expression}
-use Rattle.just_execution.proofs.Homes.{All-got}
-use Rattle.just_execution.specs.declared.task.Task.{Task}
+use Rattle.just_tasks.proofs.Places.{All-got}
+use Rattle.just_tasks.specs.declared.task.Task.{Task}
 use Rattle.just_graph.proofs.Members.{In, contained}
 use Rattle.just_justfile.specs.Closed.{IsPlaced, StandsIn}
 use Rattle.just_justfile.specs.Running.{CanRun, HasNeeds, IsReadBy, NeedsIn, TellsBareLines, known_by_tables}

@@ -4,7 +4,7 @@ use Rattle.std.specs.Prelude.{Result}
 use Rattle.just_ast_expressions.specs.declared.scope.Scope.{Scope}
 use Rattle.just_errors.specs.declared.halt.Halt.{Halt}
 use Rattle.just_errors.specs.declared.halt.Halt.TheVariants.{Memory}
-use Rattle.just_execution.specs.loops.TaskInteractions.{AsksAlone}
+use Rattle.just_run_layers.specs.loops.Interactions.{AsksAlone}
 use Rattle.just_run_layers.proofs.InteractionLemmas.{keeps-both, keeps-self, took-give, took-out, took-stop, took-then}
 use Rattle.just_run_layers.specs.Evaluation.{Inquiry, NumberSet, ScopeRequest}
 use Rattle.just_run_layers.specs.Host.{Answer, KeepsPromises}

@@ -1,8 +1,8 @@
 -- The open module of a path, as modules are put in one after another.
 use Rattle.std.proofs.Common.{◌≡◌, ◌∙◌, Bool, true, false, cond, List, [], ◌∷◌, ◌++◌, Option, Some, None, refl, sym, ap}
 use Rattle.std.specs.Option.{option_map, option_or}
-use Rattle.just_execution.specs.Scene.{contents_found, contents_of}
-use Rattle.just_execution.specs.declared.scopes.ModuleScope.{ModuleScope}
+use Rattle.just_tasks.specs.Scene.{contents_found, contents_of}
+use Rattle.just_tasks.specs.declared.scopes.ModuleScope.{ModuleScope}
 use Rattle.just_justfile.specs.declared.justfile.Justfile.{out-Justfile}
 use Rattle.just_paths.specs.contracts.modulepath.ModulepathPartialEq.TheImpl as path_eq
 use Rattle.just_paths.specs.declared.modulepath.Modulepath.{Modulepath}

@@ -5,10 +5,10 @@ use Rattle.std.specs.Global.{Global}
 use Rattle.std.specs.List.{All, Contains, list_any, slice_get}
 use Rattle.std.proofs.lemmas.Bool.{cases_lt, or_cases}
 use Rattle.std.proofs.lemmas.List.Elements.{All-contains}
-use Rattle.just_execution.specs.Leading.{DependsOnPlace, LeadTo, needed_places, places}
-use Rattle.just_execution.specs.declared.task.Task.{Task}
-use Rattle.just_execution.proofs.Places.{IsBefore, at-place, needs-before}
-use Rattle.just_execution.specs.Pairs.{AllBelow, needed}
+use Rattle.just_tasks.specs.Leading.{DependsOnPlace, LeadTo, needed_places, places}
+use Rattle.just_tasks.specs.declared.task.Task.{Task}
+use Rattle.just_tasks.proofs.Places.{IsBefore, at-place, needs-before}
+use Rattle.just_tasks.specs.Pairs.{AllBelow, needed}
 use Rattle.just_graph.specs.Building.{EachRow, targets_past}
 use Rattle.just_graph.specs.Graph.{HasEdge, IsGraph, targets}
 use Rattle.just_graph.specs.Steps.{Reached, from_member, from_start}

@@ -3,8 +3,8 @@ use Rattle.std.specs.Prelude.{◌≡◌, ◌↔◌, ◌||◌, ℕ, Bool, true, f
 use Rattle.std.specs.List.{slice_get}
 use Rattle.just_ast_definitions.specs.declared.assignment.Assignment.{Assignment}
 use Rattle.just_ast_expressions.specs.declared.settings.Settings.{Settings}
-use Rattle.just_execution.specs.Leading.{LeadTo}
-use Rattle.just_execution.specs.declared.task.Task.{Task}
+use Rattle.just_tasks.specs.Leading.{LeadTo}
+use Rattle.just_tasks.specs.declared.task.Task.{Task}
 use Rattle.just_justfile.specs.Closed.{StandsIn}
 use Rattle.just_justfile.specs.Running.{IsReadBy, NeedsIn, known_by_tables}
 use Rattle.just_justfile.specs.declared.justfile.Justfile.{Justfile, out-Justfile}

@@ -2,9 +2,9 @@
 use Rattle.std.specs.Prelude.{◌≡◌, ◌↔◌, ◌++◌, ℕ, Bool, true, cond, List, [], map, Option, Some, IsSome, Result}
 use Rattle.std.specs.List.{All, Contains, slice_get}
 use Rattle.just_errors.specs.declared.halt.Halt.{Halt}
-use Rattle.just_execution.specs.Homes.{IsRead}
-use Rattle.just_execution.specs.Leading.{LeadTo}
-use Rattle.just_execution.specs.declared.task.Task.{Task}
+use Rattle.just_tasks.specs.Homes.{IsRead}
+use Rattle.just_tasks.specs.Leading.{LeadTo}
+use Rattle.just_tasks.specs.declared.task.Task.{Task}
 use Rattle.just_justfile.specs.Closed.{StandsIn}
 use Rattle.just_justfile.specs.Running.{arguments_of, known_by_tables}
 use Rattle.just_justfile.specs.declared.justfile.Justfile.{Justfile, out-Justfile}

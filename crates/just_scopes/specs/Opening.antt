@@ -9,8 +9,8 @@ use Rattle.just_ast_expressions.specs.declared.scope.Scope.{Scope}
 use Rattle.just_errors.specs.declared.halt.Halt.{Halt}
 use Rattle.just_errors.specs.declared.halt.Halt.TheVariants.{Memory, Failed}
 use Rattle.just_errors.specs.declared.run_error.RunError.TheVariants.{Dotenv}
-use Rattle.just_execution.specs.Arguments.{unevaluated}
-use Rattle.just_execution.specs.Scene.{ModuleContents, Scene, running}
+use Rattle.just_errors.specs.Halts.{unevaluated}
+use Rattle.just_tasks.specs.Scene.{ModuleContents, Scene, running}
 use Rattle.just_justfile.specs.declared.justfile.Justfile.{Justfile, out-Justfile}
 use Rattle.just_names.specs.Texts.{Text}
 use Rattle.just_names.specs.declared.number.Number.{Number}

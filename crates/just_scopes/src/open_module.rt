@@ -3,8 +3,8 @@
 ghost use Rattle.std.specs.Prelude.{◌≡◌, ◌++◌, List, length, map, IfOk};
 ghost use Rattle.std.specs.HashSet.{contains};
 ghost use Rattle.std.specs.List.{All, Contains};
-ghost use Rattle.just_execution.specs.loops.TaskInteractions.{AsksAlone};
-ghost use Rattle.just_execution.specs.Pairs.{AllBelow};
+ghost use Rattle.just_run_layers.specs.loops.Interactions.{AsksAlone};
+ghost use Rattle.just_tasks.specs.Pairs.{AllBelow};
 ghost use Rattle.just_justfile.specs.Running.{CanRun, HoldsOverridden, TellsBareLines, known_by_tables};
 ghost use Rattle.just_justfile.specs.declared.justfile.Justfile.{out-Justfile};
 ghost use Rattle.just_parts.specs.Evaluator.{Binds};
@@ -27,11 +27,11 @@ use crate::needs::wanted_numbers;
 use crate::uses::used_numbers;
 use just_data::{Chain, Shared, Text};
 use just_errors::Refusal;
-use just_execution::Task;
 use just_justfile::Justfile;
 use just_parts::layers::{Config, Halt, Number, RunError, Scope, Syntax};
 use just_recipes::Recipes;
 use just_run_layers::{EnvironmentPair, Evaluation, Host};
+use just_tasks::Task;
 use std::alloc::{AllocError, Global};
 use std::collections::{HashMap, HashSet};
 

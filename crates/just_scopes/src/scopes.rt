@@ -1,7 +1,7 @@
 //! What recipes run in, once the modules are open.
 ghost use Rattle.std.specs.Prelude.{◌≡◌, map, option_map, IfOk};
-ghost use Rattle.just_execution.specs.Homes.{AllHaveModuleScope};
-ghost use Rattle.just_execution.specs.Scene.{scene_in};
+ghost use Rattle.just_tasks.specs.Homes.{AllHaveModuleScope};
+ghost use Rattle.just_tasks.specs.Scene.{scene_in};
 ghost use Rattle.just_scopes.specs.Open.{AreOpenModules};
 ghost use Rattle.just_scopes.specs.Opening.{handed_of, opened_at, opened_of, scene_of, scope_at, setup_of};
 ghost use Rattle.just_scopes.specs.loops.Scoped.{AreModulesOf};
@@ -9,9 +9,9 @@ ghost use Rattle.just_scopes.specs.loops.Scoped.{AreModulesOf};
 use crate::context::context_of;
 use crate::open_module::OpenedModule;
 use just_data::{Chain, Text};
-use just_execution::{ModuleScope, Scopes};
 use just_parts::layers::{Config, Number, Scope, Syntax};
 use just_paths::Modulepath;
+use just_tasks::{ModuleScope, Scopes};
 use std::alloc::{AllocError, Global};
 use std::collections::HashMap;
 

@@ -2,16 +2,16 @@
 ghost use Rattle.std.specs.Prelude.{◌≡◌, ◌<◌, ◌↔◌, ◌||◌, ℕ, length, IfOk, OnOk};
 ghost use Rattle.std.specs.HashSet.{contains};
 ghost use Rattle.std.specs.List.{All, Contains, list_any};
-ghost use Rattle.just_execution.specs.Leading.{LeadTo, needed_places, places};
-ghost use Rattle.just_execution.specs.Pairs.{AllBelow};
+ghost use Rattle.just_tasks.specs.Leading.{LeadTo, needed_places, places};
+ghost use Rattle.just_tasks.specs.Pairs.{AllBelow};
 ghost use Rattle.just_graph.specs.Building.{EachRow};
 ghost use Rattle.just_parts.specs.Needs.{same_number};
 ghost use Rattle.just_scopes.specs.loops.Need.{AreUsed};
 
-use just_execution::{Task, dependencies_at, place_in, recipe_at};
 use just_graph::reach;
 use just_parts::layers::Number;
 use just_recipes::Recipes;
+use just_tasks::{Task, dependencies_at, place_in, recipe_at};
 use std::alloc::{AllocError, Global};
 use std::collections::HashSet;
 

@@ -15,14 +15,14 @@ use Rattle.just_execution.specs.declared.run_state.RunState.{RunState}
 use Rattle.just_execution.specs.declared.frame.Frame.{Frame}
 use Rattle.just_execution.specs.declared.frame.Frame.TheVariants.{Call, Block, Back}
 use Rattle.just_execution.specs.declared.frame.OpenTable.{OpenTable}
-use Rattle.just_execution.specs.declared.task.Task.{Task}
+use Rattle.just_tasks.specs.declared.task.Task.{Task}
 use Rattle.just_parts.specs.Syntax.{SyntaxAnswers}
-use Rattle.just_execution.specs.Homes.{Modules}
+use Rattle.just_tasks.specs.Homes.{Modules}
 use Rattle.just_execution.specs.loops.Homes.{IsCallable, IsServed}
-use Rattle.just_execution.specs.Pairs.{AllBelow}
+use Rattle.just_tasks.specs.Pairs.{AllBelow}
 use Rattle.just_execution.specs.loops.Pairs.{table_of}
 use Rattle.just_execution.specs.TaskInteractions.{interactions_of}
-use Rattle.just_execution.specs.Scene.{Scene}
+use Rattle.just_tasks.specs.Scene.{Scene}
 use Rattle.just_execution.specs.Walking.{TaskInteractions, State, fresh_steps, ran_steps, walk_steps}
 
 -- the walk of a task, with as much fuel as its place needs

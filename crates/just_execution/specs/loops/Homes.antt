@@ -8,9 +8,9 @@ use Rattle.just_parts.specs.Syntax.{SyntaxAnswers}
 use Rattle.just_recipe.specs.declared.dependency.Dependency.{Dependency}
 use Rattle.just_recipe.specs.declared.recipe.Recipe.{Recipe}
 use Rattle.just_run_layers.specs.declared.held.Held.{Held}
-use Rattle.just_execution.specs.declared.scopes.ModuleScope.{ModuleScope}
-use Rattle.just_execution.specs.declared.task.Task.{Task}
-use Rattle.just_execution.specs.Homes.{AllHaveModuleScope, IsBound, Modules, module_scope_at}
+use Rattle.just_tasks.specs.declared.scopes.ModuleScope.{ModuleScope}
+use Rattle.just_tasks.specs.declared.task.Task.{Task}
+use Rattle.just_tasks.specs.Homes.{AllHaveModuleScope, IsBound, Modules, module_scope_at}
 
 -- for the private functions: a task that can be called: its recipe is there, and what it leads to has its module's scope
 pub record IsCallable (answers : SyntaxAnswers) (modules : Modules) (recipes : List (Recipe Dependency)) (t : Task) : Type 0 where

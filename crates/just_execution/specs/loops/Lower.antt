@@ -1,8 +1,8 @@
 -- The tasks that a task leads to stand at lower places.
 use Rattle.std.specs.Prelude.{List}
 use Rattle.just_run_layers.specs.Interactions.{CanReturn}
-use Rattle.just_execution.specs.declared.task.Task.{Task}
-use Rattle.just_execution.specs.Pairs.{AllBelow}
+use Rattle.just_tasks.specs.declared.task.Task.{Task}
+use Rattle.just_tasks.specs.Pairs.{AllBelow}
 use Rattle.just_run_layers.specs.declared.held.Held.{Held}
 use Rattle.just_execution.specs.Walking.{TaskInteractions, Prepared}
 

@@ -1,8 +1,8 @@
 -- What private functions say beside `Pairs.antt`.
 use Rattle.std.specs.Prelude.{List}
-use Rattle.just_execution.specs.declared.pair.Pair.{Pair}
+use Rattle.just_tasks.specs.declared.pair.Pair.{Pair}
 use Rattle.just_execution.specs.Firsts.{has}
-use Rattle.just_execution.specs.Pairs.{OnceTable, same_pair}
+use Rattle.just_tasks.specs.Pairs.{OnceTable, same_pair}
 
 -- those of a list did
 abbrev pub table_of : List Pair → OnceTable

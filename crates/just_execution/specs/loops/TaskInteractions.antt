@@ -1,13 +1,13 @@
 -- What private functions say beside `TaskInteractions.antt`.
-use Rattle.std.specs.Prelude.{List, Option, Result, Ok, Err}
+use Rattle.std.specs.Prelude.{Option, Result, Ok, Err}
 use Rattle.just_errors.specs.declared.halt.Halt.{Halt}
 use Rattle.just_run_layers.specs.declared.host.Entry.{Entry}
-use Rattle.just_run_layers.specs.Evaluation.{Inquiry, ScopeRequest}
+use Rattle.just_run_layers.specs.Evaluation.{Inquiry}
 use Rattle.just_run_layers.specs.Host.{Answer}
-use Rattle.just_run_layers.specs.Interactions.{Log, log_of, Interaction, HasTrace, both}
+use Rattle.just_run_layers.specs.Interactions.{Log, HasTrace, both}
 use Rattle.just_execution.specs.declared.questions.Preparation.{Preparation}
-use Rattle.just_execution.specs.declared.task.Task.{Task}
-use Rattle.just_execution.specs.Scene.{Scene}
+use Rattle.just_tasks.specs.declared.task.Task.{Task}
+use Rattle.just_tasks.specs.Scene.{Scene}
 use Rattle.just_execution.specs.Walking.{Prepared}
 use Rattle.just_execution.specs.TaskInteractions.{ask_steps}
 
@@ -19,10 +19,6 @@ abbrev pub prepared_of : Result Preparation Halt → Result Prepared Halt
 prepared_of (Ok p) = Ok (prepared p)
 prepared_of (Err e) = Err e
 
--- the questions before the priors; questions of which the host is asked none, whatever it has kept; and the body
+-- the questions before the priors
 abbrev pub Prepares : (Inquiry → Option Answer) → (Entry → Option Answer) → Scene → Task → Log → Log → Result Prepared Halt → Type 0
 Prepares evaluator host scene task old new result = HasTrace (both evaluator host) (ask_steps scene task) old new result
-
-abbrev pub AsksAlone : {A : Type 0} → (Inquiry → Option Answer) → Interaction A → List ScopeRequest → List ScopeRequest → Result A Halt → Type 0
-AsksAlone evaluator steps before later result =
-    (host : Entry → Option Answer) (entries : List Entry) → HasTrace (both evaluator host) steps (log_of entries before) (log_of entries later) result

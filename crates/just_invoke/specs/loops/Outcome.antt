@@ -5,9 +5,9 @@ use Rattle.just_errors.specs.declared.error.Error.{Error}
 use Rattle.just_errors.specs.declared.error.Error.TheVariants.{Run}
 use Rattle.just_errors.specs.declared.run_error.RunError.TheVariants.{ExcessInvocations}
 use Rattle.just_recipe.specs.declared.recipe.Recipe.{Recipe}
-use Rattle.just_execution.specs.declared.task.Task.{Task}
-use Rattle.just_invoke.specs.declared.invocation.Invocation as parsed
-use Rattle.just_invoke.specs.Split.{invoked_of}
+use Rattle.just_tasks.specs.declared.task.Task.{Task}
+use Rattle.just_invocations.specs.declared.invocation.Invocation as parsed
+use Rattle.just_invocations.specs.Split.{invoked_of}
 use Rattle.just_invoke.specs.Outcome.{refused, tops}
 
 abbrev pub tops_of : List (Recipe Dependency) → List parsed.Invocation → List Task

@@ -4,9 +4,9 @@ use Rattle.just_errors.specs.declared.error.Error.TheVariants.{Memory}
 use Rattle.just_errors.specs.declared.halt.Halt.{Halt}
 use Rattle.just_errors.specs.declared.halt.Halt.TheVariants as halt
 use Rattle.just_execution.specs.Reports.{IsRun}
-use Rattle.just_execution.specs.Scene.{running}
+use Rattle.just_tasks.specs.Scene.{running}
 use Rattle.just_execution.specs.declared.run.Report.{Report}
-use Rattle.just_execution.specs.declared.task.Task.{Task}
+use Rattle.just_tasks.specs.declared.task.Task.{Task}
 use Rattle.just_recipe.specs.declared.dependency.Dependency.{Dependency}
 use Rattle.just_recipe.specs.declared.recipe.Recipe.{Recipe}
 use Rattle.just_run_layers.specs.Evaluation.{Inquiry}

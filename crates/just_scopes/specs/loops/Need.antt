@@ -1,8 +1,8 @@
 -- What private functions say beside `Need.antt`.
 use Rattle.std.specs.Prelude.{◌≡◌, ◌↔◌, ℕ, Bool, true, List, Some}
 use Rattle.std.specs.List.{Contains, slice_get}
-use Rattle.just_execution.specs.Leading.{LeadTo}
-use Rattle.just_execution.specs.declared.task.Task.{Task}
+use Rattle.just_tasks.specs.Leading.{LeadTo}
+use Rattle.just_tasks.specs.declared.task.Task.{Task}
 use Rattle.just_names.specs.declared.number.Number.{Number}
 use Rattle.just_recipe.specs.declared.dependency.Dependency.{Dependency}
 use Rattle.just_recipe.specs.declared.recipe.Recipe.{Recipe}

@@ -1,8 +1,8 @@
 -- For the private functions: the open modules by their paths, as recipes run in them.
 use Rattle.std.specs.Prelude.{◌≡◌, List, Some}
 use Rattle.std.specs.Option.{option_map}
-use Rattle.just_execution.specs.Homes.{Modules, module_scope_at}
-use Rattle.just_execution.specs.Scene.{contents_found}
+use Rattle.just_tasks.specs.Homes.{Modules, module_scope_at}
+use Rattle.just_tasks.specs.Scene.{contents_found}
 use Rattle.just_paths.specs.declared.modulepath.Modulepath.{Modulepath}
 use Rattle.just_scopes.specs.Opening.{Handed, Opened, contents_in, opened_at}
 

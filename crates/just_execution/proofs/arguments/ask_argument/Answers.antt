@@ -4,7 +4,7 @@ use Rattle.just_run_layers.specs.Evaluation.{surroundings}
 use Rattle.just_run_layers.specs.Interactions.{Return}
 use Rattle.just_run_layers.proofs.InteractionLemmas.{exited}
 use Rattle.just_execution.specs.Arguments.{argument_steps, texts_given, value_steps}
-use Rattle.just_execution.specs.loops.TaskInteractions.{AsksAlone}
+use Rattle.just_run_layers.specs.loops.Interactions.{AsksAlone}
 use Rattle.just_execution.proofs.Gathered.{alone-give, alone-out, alone-stop, alone-then}
 use Rattle.just_execution.proofs.arguments.ask_argument.Goals as goal
 

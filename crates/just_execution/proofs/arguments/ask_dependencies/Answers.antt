@@ -9,9 +9,9 @@ use Rattle.just_execution.specs.Arguments.{dependencies_steps, dependency_steps,
 use Rattle.just_execution.specs.loops.Arguments.{AreReadableGroups, IsGivenIn}
 use Rattle.just_execution.specs.loops.Frames.{items_of_frames}
 use Rattle.just_execution.specs.TaskInteractions.{surrounded}
-use Rattle.just_execution.specs.loops.TaskInteractions.{AsksAlone}
-use Rattle.just_execution.specs.Scene.{contents_of}
-use Rattle.just_execution.specs.declared.task.Task.{Task}
+use Rattle.just_run_layers.specs.loops.Interactions.{AsksAlone}
+use Rattle.just_tasks.specs.Scene.{contents_of}
+use Rattle.just_tasks.specs.declared.task.Task.{Task}
 use Rattle.just_execution.proofs.Gathered.{Continues, gathered-all, gathered-next, gathered-out, gathered-start, gathered-stop}
 use Rattle.just_execution.proofs.Asked.{dependency-failed, dependency-given}
 use Rattle.just_execution.proofs.arguments.ask_dependencies.Goals as goal

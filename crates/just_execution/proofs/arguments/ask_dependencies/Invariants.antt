@@ -1,7 +1,7 @@
 use Rattle.just_run_layers.specs.Host.{KeepsPromises}
 use Rattle.just_execution.specs.Arguments.{dependency_steps}
 use Rattle.just_execution.specs.TaskInteractions.{surrounded}
-use Rattle.just_execution.specs.Scene.{contents_of}
+use Rattle.just_tasks.specs.Scene.{contents_of}
 use Rattle.just_execution.proofs.Gathered.{Continues}
 use Rattle.just_execution.proofs.arguments.ask_dependencies.Given as goal
 

@@ -6,7 +6,7 @@ use Rattle.just_run_layers.specs.Evaluation.{surroundings}
 use Rattle.just_run_layers.proofs.InteractionLemmas.{exited, keeps-self, keeps-then}
 use Rattle.just_execution.specs.Arguments.{group_steps, groups_steps}
 use Rattle.just_execution.specs.loops.Arguments.{AreReadableArguments}
-use Rattle.just_execution.specs.loops.TaskInteractions.{AsksAlone}
+use Rattle.just_run_layers.specs.loops.Interactions.{AsksAlone}
 use Rattle.just_execution.proofs.Gathered.{Continues, gathered-all, gathered-next, gathered-out, gathered-start, gathered-stop}
 use Rattle.just_execution.proofs.Asked.{group-failed, group-given}
 use Rattle.just_execution.proofs.arguments.ask_groups.Goals as goal

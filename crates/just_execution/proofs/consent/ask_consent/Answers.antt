@@ -14,7 +14,7 @@ use Rattle.just_recipe_body.specs.Confirmation.{confirm_steps}
 use Rattle.just_recipe_body.proofs.AllLemmas.{all-left}
 use Rattle.just_recipe_body.proofs.StepEnds.{took-exit}
 use Rattle.just_execution.specs.TaskInteractions.{consent_by, consented}
-use Rattle.just_execution.specs.Scene.{contents_of}
+use Rattle.just_tasks.specs.Scene.{contents_of}
 use Rattle.just_execution.proofs.Covered.{body-covered}
 use Rattle.just_execution.proofs.consent.ask_consent.Goals as goal
 

@@ -5,11 +5,11 @@ use Rattle.just_run_layers.specs.Interactions.{log_of}
 use Rattle.just_run_layers.proofs.InteractionLemmas.{exited, keeps-then}
 use Rattle.just_execution.specs.loops.Arguments.{IsGivenIn}
 use Rattle.just_execution.specs.loops.TaskInteractions.{Prepares, prepared_of}
-use Rattle.just_execution.specs.Scene.{scene_in}
+use Rattle.just_tasks.specs.Scene.{scene_in}
 use Rattle.just_execution.specs.declared.questions.Preparation.{Preparation}
 use Rattle.just_execution.proofs.Covered.{arguments-given, held-serves, parameters-covered}
 use Rattle.just_execution.proofs.Homes.{home-of, is-served}
-use Rattle.just_execution.proofs.Lone.{running-priors}
+use Rattle.just_tasks.proofs.Lone.{running-priors}
 use Rattle.just_execution.proofs.LoneTraces.{consent-failed, parameters-failed, priors-failed, priors-given, priors-seen}
 use Rattle.just_execution.proofs.questions.ask.Goals as goal
 

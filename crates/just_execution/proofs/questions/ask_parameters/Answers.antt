@@ -1,5 +1,5 @@
 use Rattle.std.proofs.Common.{rules}
-use Rattle.just_execution.specs.Scene.{contents_of}
+use Rattle.just_tasks.specs.Scene.{contents_of}
 use Rattle.just_execution.proofs.Asked.{parameters-given, parameters-refused}
 use Rattle.just_execution.proofs.questions.ask_parameters.Goals as goal
 

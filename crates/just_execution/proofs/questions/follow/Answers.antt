@@ -3,7 +3,7 @@ use Rattle.just_execution.specs.loops.Arguments.{IsGivenIn}
 use Rattle.just_execution.specs.loops.Frames.{items_of_frames}
 use Rattle.just_execution.proofs.Covered.{arguments-given}
 use Rattle.just_execution.proofs.Homes.{home-of, serves-in}
-use Rattle.just_execution.proofs.Lone.{running-subsequents}
+use Rattle.just_tasks.proofs.Lone.{running-subsequents}
 use Rattle.just_execution.proofs.LoneTraces.{followed-as, subsequents-seen}
 use Rattle.just_execution.proofs.questions.follow.Goals as goal
 

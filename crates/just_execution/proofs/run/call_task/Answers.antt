@@ -8,13 +8,13 @@ use Rattle.just_execution.specs.loops.Homes.{IsCallable, IsServed}
 use Rattle.just_execution.specs.TaskInteractions.{interactions_of}
 use Rattle.just_execution.specs.loops.TaskInteractions.{prepared}
 use Rattle.just_execution.specs.Walking.{Prepared}
-use Rattle.just_execution.specs.Scene.{scene_in}
+use Rattle.just_tasks.specs.Scene.{scene_in}
 use Rattle.just_execution.proofs.RunStates.{called-sound, counted-sound, pushed-calls}
 use Rattle.just_execution.proofs.Goings.{goes-err, over-took, known-took, unasked-took, asked-took, halted-took}
 use Rattle.just_execution.proofs.Homes.{asked-callable}
 use Rattle.just_execution.proofs.TaskInteractions.{asked-below, leaves-lower}
 use Rattle.just_execution.proofs.WeightLemmas.{call-lighter, taken-lighter}
-use Rattle.just_execution.proofs.Lone.{running-ordered}
+use Rattle.just_tasks.proofs.Lone.{running-ordered}
 use Rattle.just_execution.proofs.run.call_task.Goals as goal
 
 pub returns-in_err-count_call-clause-goes : goal.returns-in_err-count_call-clause-goes

@@ -13,10 +13,12 @@ use Rattle.just_run_layers.proofs.InteractionLemmas.{keeps-both, keeps-self, too
 use Rattle.just_recipe_body.proofs.StepEnds.{took-gone}
 use Rattle.just_recipe_run.specs.RecipeRun.{body_by, recipe_steps}
 use Rattle.just_execution.specs.TaskInteractions.{begin_steps, body_of, execute_at, execute_steps, run_in}
-use Rattle.just_execution.specs.Scene.{ModuleContents, Scene, contents_of, scene_in}
+use Rattle.just_tasks.specs.Scene.{ModuleContents, Scene, contents_of, scene_in}
 use Rattle.just_execution.proofs.Covered.{body-covered}
-use Rattle.just_execution.proofs.Homes.{All-got, contents-there, home-of, serves-in}
-use Rattle.just_execution.proofs.Lone.{as_run, running-at, same-path, same-run}
+use Rattle.just_tasks.proofs.Places.{All-got}
+use Rattle.just_execution.proofs.Homes.{contents-there, home-of, serves-in}
+use Rattle.just_tasks.proofs.Lone.{as_run, running-at, same-path}
+use Rattle.just_execution.proofs.Lone.{same-run}
 use Rattle.just_execution.proofs.run.execute.Goals as goal
 
 pub module_of-home-requires : goal.module_of-home-requires

@@ -8,7 +8,7 @@ use Rattle.just_execution.specs.declared.frame.Frame.{Frame}
 use Rattle.just_execution.specs.loops.Frames.{continuation_from, continuation_of, state_of}
 use Rattle.just_execution.specs.TaskInteractions.{interactions_of}
 use Rattle.just_execution.specs.Walking.{TaskInteractions, State}
-use Rattle.just_execution.specs.Scene.{scene_in}
+use Rattle.just_tasks.specs.Scene.{scene_in}
 use Rattle.just_execution.proofs.Goings.{ended-took, none-took}
 use Rattle.just_execution.proofs.run.finish.Goals as goal
 

@@ -5,7 +5,7 @@ use Rattle.just_run_layers.specs.Host.{KeepsPromises}
 use Rattle.just_run_layers.specs.Interactions.{Log, HasTrace, both, log_of}
 use Rattle.just_execution.specs.loops.Frames.{IsSoundIn, continuation_of, weight}
 use Rattle.just_execution.specs.TaskInteractions.{interactions_of}
-use Rattle.just_execution.specs.Scene.{scene_in}
+use Rattle.just_tasks.specs.Scene.{scene_in}
 use Rattle.just_execution.specs.Walking.{State}
 use Rattle.just_execution.proofs.run.finish.Given as goal
 

@@ -4,13 +4,13 @@ use Rattle.just_run_layers.specs.Interactions.{Log, Question, both, log_of}
 use Rattle.just_run_layers.proofs.InteractionLemmas.{keeps-both, keeps-then}
 use Rattle.just_execution.specs.loops.Frames.{continuation_of, state_of}
 use Rattle.just_execution.specs.TaskInteractions.{interactions_of}
-use Rattle.just_execution.specs.declared.task.Task.{Task}
-use Rattle.just_execution.specs.Scene.{scene_in}
+use Rattle.just_tasks.specs.declared.task.Task.{Task}
+use Rattle.just_tasks.specs.Scene.{scene_in}
 use Rattle.just_execution.proofs.RunStates.{block-last}
 use Rattle.just_execution.proofs.Goings.{goes-err, failed-took, unfollowed-took, stopped-took, followed-took}
 use Rattle.just_execution.proofs.Homes.{followed-callable}
 use Rattle.just_execution.proofs.TaskInteractions.{followed-below, leaves-lower}
-use Rattle.just_execution.proofs.Lone.{running-ordered}
+use Rattle.just_tasks.proofs.Lone.{running-ordered}
 use Rattle.just_execution.proofs.run.run_block.Goals as goal
 
 pub returns-in_err-execute-clause-goes : goal.returns-in_err-execute-clause-goes

@@ -1,6 +1,6 @@
-use Rattle.just_execution.specs.Scene.{scene_in}
+use Rattle.just_tasks.specs.Scene.{scene_in}
 use Rattle.just_execution.proofs.Runs.{account-run, expected-run}
-use Rattle.just_execution.proofs.Lone.{running-below, running-ordered}
+use Rattle.just_tasks.proofs.Lone.{running-below, running-ordered}
 use Rattle.just_execution.proofs.run.run_tasks.Goals as goal
 
 pub returns-clause-account : goal.returns-clause-account

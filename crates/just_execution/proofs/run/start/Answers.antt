@@ -6,12 +6,12 @@ use Rattle.just_execution.specs.loops.Frames.{state_of}
 use Rattle.just_execution.specs.loops.Homes.{IsCallable, IsServed}
 use Rattle.just_execution.specs.TaskInteractions.{interactions_of}
 use Rattle.just_execution.specs.Walking.{fresh_steps, walk_steps}
-use Rattle.just_execution.specs.Scene.{running, scene_in}
+use Rattle.just_tasks.specs.Scene.{running, scene_in}
 use Rattle.just_execution.proofs.RunStates.{begun-sound, first-calls}
 use Rattle.just_execution.proofs.Goings.{ended-calls, whole-stop, whole-took}
 use Rattle.just_execution.proofs.Homes.{each-callable}
 use Rattle.just_execution.proofs.TaskInteractions.{leaves-lower}
-use Rattle.just_execution.proofs.Lone.{running-below, running-ordered}
+use Rattle.just_tasks.proofs.Lone.{running-below, running-ordered}
 use Rattle.just_execution.proofs.run.start.Goals as goal
 
 pub returns-in_err-state-clause-took : goal.returns-in_err-state-clause-took

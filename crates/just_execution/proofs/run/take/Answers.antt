@@ -4,7 +4,7 @@ use Rattle.just_run_layers.specs.Interactions.{Log, Question, HasTrace, both, lo
 use Rattle.just_execution.specs.declared.frame.Frame.{Frame}
 use Rattle.just_execution.specs.loops.Frames.{Simulates, continuation_of, continuation_with, state_of}
 use Rattle.just_execution.specs.TaskInteractions.{interactions_of}
-use Rattle.just_execution.specs.Scene.{scene_in}
+use Rattle.just_tasks.specs.Scene.{scene_in}
 use Rattle.just_execution.proofs.FrameLemmas.{back-left}
 use Rattle.just_execution.proofs.WeightLemmas.{taken-lighter}
 use Rattle.just_execution.proofs.run.take.Goals as goal

@@ -3,7 +3,7 @@ use Rattle.std.specs.HashSet.{contains}
 use Rattle.just_errors.specs.Halts.{come_to, error_of, discard_value}
 use Rattle.just_errors.specs.declared.halt.Halt.{Halt}
 use Rattle.just_errors.specs.declared.halt.Halt.TheVariants.{Memory}
-use Rattle.just_execution.proofs.Standing.{ok-not}
+use Rattle.just_run_layers.proofs.Halts.{ok-not}
 use Rattle.just_execution.specs.declared.run.Report.{Report}
 use Rattle.just_parts.specs.Needs.{same_number}
 use Rattle.just_run_layers.proofs.InteractionLemmas.{keeps-then}

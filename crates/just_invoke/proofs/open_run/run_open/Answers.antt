@@ -1,6 +1,6 @@
 use Rattle.std.proofs.Common.{inr, subst}
 use Rattle.just_execution.specs.Reports.{IsRun}
-use Rattle.just_execution.specs.Scene.{Scene, running}
+use Rattle.just_tasks.specs.Scene.{Scene, running}
 use Rattle.just_run_layers.specs.Interactions.{log_of}
 use Rattle.just_invoke.specs.Results.{RunsInScene}
 use Rattle.just_invoke.proofs.open_run.run_open.Goals as goal

@@ -9,8 +9,8 @@ use Rattle.just_scopes.specs.Opening.{setup_of}
 use Rattle.just_invoke.specs.Results.{RunEndsAs}
 use Rattle.just_invoke.specs.Outcome.{tops}
 use Rattle.just_invoke.specs.loops.Outcome.{tops_of}
-use Rattle.just_invoke.specs.declared.invocation.Invocation.{Invocation}
-use Rattle.just_invoke.specs.Split.{invoked_of}
+use Rattle.just_invocations.specs.declared.invocation.Invocation.{Invocation}
+use Rattle.just_invocations.specs.Split.{invoked_of}
 use Rattle.just_invoke.proofs.Outcomes.{many-not, many-outcome, unread-outcome, unread-so, went, went-expected}
 use Rattle.just_invoke.proofs.run.run_words.Goals as goal
 

@@ -1,12 +1,12 @@
 use Rattle.std.proofs.Common.{◌≡◌, ◌<◌, ◌++◌, ◌∷◌, [], ◌∙◌, sym, ap, subst, false, length, map, arith, rules}
 use Rattle.std.proofs.lemmas.List.{take_all}
 use Rattle.std.proofs.lemmas.Simd.{map-map}
-use Rattle.just_execution.specs.declared.task.Task.{Task}
+use Rattle.just_tasks.specs.declared.task.Task.{Task}
 use Rattle.just_recipes.proofs.Places.{found-number, map-more, all-more}
-use Rattle.just_invoke.specs.declared.invocation.Invocation.{Invocation}
+use Rattle.just_invocations.specs.declared.invocation.Invocation.{Invocation}
 use Rattle.just_justfile.specs.Closed.{IsHeld}
 use Rattle.just_invoke.specs.Outcome.{top}
-use Rattle.just_invoke.specs.Split.{invoked_of}
+use Rattle.just_invocations.specs.Split.{invoked_of}
 use Rattle.just_invoke.proofs.Namings.{placed-some, placed}
 use Rattle.just_invoke.proofs.tops.name_tops.Goals as goal
 

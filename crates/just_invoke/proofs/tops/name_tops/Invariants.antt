@@ -1,7 +1,7 @@
 use Rattle.std.proofs.Common.{◌≡◌, map, take, length}
-use Rattle.just_execution.specs.Pairs.{AllBelow}
+use Rattle.just_tasks.specs.Pairs.{AllBelow}
 use Rattle.just_invoke.specs.Outcome.{top}
-use Rattle.just_invoke.specs.Split.{invoked_of}
+use Rattle.just_invocations.specs.Split.{invoked_of}
 use Rattle.just_invoke.proofs.tops.name_tops.Given as goal
 
 abbrev pub invariant-loop-invocation : goal.invariant-loop-invocation

@@ -1,9 +1,9 @@
 use Rattle.std.proofs.Common.{◌≡◌, ◌∙◌, [], ◌∷◌, cond, map, Some, sym, ap, subst, rules}
 use Rattle.std.specs.Option.{option_map}
 use Rattle.std.proofs.lemmas.List.{map-append}
-use Rattle.just_execution.specs.Homes.{module_scope_at}
-use Rattle.just_execution.specs.Scene.{contents_found}
-use Rattle.just_execution.specs.declared.scopes.ModuleScope.{ModuleScope}
+use Rattle.just_tasks.specs.Homes.{module_scope_at}
+use Rattle.just_tasks.specs.Scene.{contents_found}
+use Rattle.just_tasks.specs.declared.scopes.ModuleScope.{ModuleScope}
 use Rattle.just_justfile.specs.declared.justfile.Justfile.{out-Justfile}
 use Rattle.just_paths.specs.contracts.modulepath.ModulepathPartialEq.TheImpl as path_eq
 use Rattle.just_scopes.specs.Opening.{contents_in, handed_of, opened_at, opened_of}

@@ -1,5 +1,5 @@
 use Rattle.std.proofs.Common.{◌≡◌, take}
-use Rattle.just_execution.specs.Leading.{places}
+use Rattle.just_tasks.specs.Leading.{places}
 use Rattle.just_scopes.proofs.uses.places_of.Given as goal
 
 abbrev pub invariant-loop-task : goal.invariant-loop-task

@@ -1,7 +1,7 @@
 use Rattle.std.proofs.Common.{◌≡◌, map, take}
 use Rattle.just_recipe.specs.declared.dependency.Dependency.{Dependency}
 use Rattle.just_recipes.specs.Places.{place_of}
-use Rattle.just_execution.specs.Pairs.{needed}
+use Rattle.just_tasks.specs.Pairs.{needed}
 use Rattle.just_scopes.proofs.uses.row_of.Given as goal
 
 abbrev pub invariant-loop-dependency : goal.invariant-loop-dependency

@@ -1,5 +1,5 @@
 use Rattle.std.proofs.Common.{◌≡◌}
-use Rattle.just_execution.specs.Leading.{needed_places}
+use Rattle.just_tasks.specs.Leading.{needed_places}
 use Rattle.just_graph.specs.Building.{EachRow}
 use Rattle.just_scopes.proofs.uses.rows_of.Given as goal
 

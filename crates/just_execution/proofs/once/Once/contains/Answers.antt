@@ -1,6 +1,6 @@
 use Rattle.std.proofs.Common.{ap, ◌∙◌}
 use Rattle.just_execution.specs.Firsts.{has}
-use Rattle.just_execution.specs.Pairs.{same_pair}
+use Rattle.just_tasks.specs.Pairs.{same_pair}
 use Rattle.just_execution.proofs.Pairs.{held}
 use Rattle.just_execution.proofs.once.Once.contains.Goals as goal
 

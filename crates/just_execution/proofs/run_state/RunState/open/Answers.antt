@@ -1,11 +1,11 @@
 use Rattle.std.proofs.Common.{◌≡◌, ◌≢◌, ◌++◌, ◌∷◌, [], List, length, arith, rules}
 use Rattle.just_execution.specs.declared.run_state.RunState.{RunState}
 use Rattle.just_execution.specs.declared.frame.Frame.TheVariants.{Back}
-use Rattle.just_execution.specs.declared.task.Task.{Task}
+use Rattle.just_tasks.specs.declared.task.Task.{Task}
 use Rattle.just_execution.specs.loops.Frames.{state_of}
 use Rattle.just_execution.specs.Walking.{opened}
 use Rattle.just_execution.proofs.RunStates.{is-opened, not-opened, pushed-calls}
-use Rattle.just_execution.proofs.Places.{OnOk-map}
+use Rattle.just_tasks.proofs.Places.{OnOk-map}
 use Rattle.just_execution.proofs.run_state.RunState.open.Goals as goal
 
 pub returns : goal.returns

@@ -1,8 +1,0 @@
-use Rattle.std.proofs.Common.{sym, ◌∙◌, ap}
-use Rattle.just_execution.specs.Pairs.{prior_dependencies}
-use Rattle.just_execution.specs.Scene.{running}
-use Rattle.just_execution.proofs.Lone.{none-before}
-use Rattle.just_execution.proofs.recipes.priors_in.Goals as goal
-
-pub returns-then-scopes-clause-is : goal.returns-then-scopes-clause-is
-returns-then-scopes-clause-is g c = sym (ap (λ b. prior_dependencies (running b c.args.recipes.now) c.args.place) c.if-scopes.true ∙ none-before c.args.recipes.now c.args.place)

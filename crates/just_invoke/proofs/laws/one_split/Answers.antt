@@ -1,5 +1,0 @@
-use Rattle.just_invoke.proofs.Unique.{split_once}
-use Rattle.just_invoke.proofs.laws.one_split.Goals as goal
-
-pub returns : goal.returns
-returns c = split_once

@@ -1,5 +1,0 @@
-use Rattle.just_invoke.proofs.Decides.{split_or_fault}
-use Rattle.just_invoke.proofs.laws.split_or_fault.Goals as goal
-
-pub returns : goal.returns
-returns c = split_or_fault

@@ -1,6 +1,0 @@
-use Rattle.std.proofs.Common.{◌≡◌, map}
-use Rattle.just_invoke.specs.Meaning.{path_text}
-use Rattle.just_invoke.proofs.texts.path_texts.Given as goal
-
-abbrev pub invariant-loop-path : goal.invariant-loop-path
-invariant-loop-path l = l.texts ≡ map path_text (map (λ p. p.now) l.yielded)

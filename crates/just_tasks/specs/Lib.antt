@@ -1,0 +1,4 @@
+pub mod Homes
+pub mod Leading
+pub mod Pairs
+pub mod Scene
