@@ -51,7 +51,7 @@ pub enum CompileErrorKind<'src> {
         recipe: BorrowedText<'src>,
         parameter: BorrowedText<'src>,
     },
-    /// A parameter without a default follows one that has one; both are given by their places.
+    /// A parameter that wants a word follows one with a default; both are given by their places.
     RequiredParameterFollowsDefaultParameter {
         parameter: BorrowedText<'src>,
     },

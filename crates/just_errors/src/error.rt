@@ -60,8 +60,8 @@ impl<'src> Error<'src> {
     }
 }
 
-// Written out so that an error is taken apart here alone: with a derived one, each function that may fail would do so in its
-// own proof.
+// Written out so that an error is taken apart here alone: with a derived one, each function that lets go of one would do so
+// in its own proof.
 impl<'src> Drop for Error<'src> {
     fn drop(self) {
         match self {
