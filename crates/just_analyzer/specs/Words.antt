@@ -16,7 +16,7 @@ pub use Rattle.just_invoke.specs.Command.{AsksForProgram, IsProgramRun, IsProgra
 pub use Rattle.just_invoke.specs.Evaluation.{AsksForValues, IsEvaluation, IsEvaluationAsExpected, RunsRecipes, WritesNothing, writer_of}
 pub use Rattle.just_invoke.specs.Outcome.{RunsAsExpected, IsOutcome}
 pub use Rattle.just_invocations.specs.Split.{HasWordsFault, IsSplit, invoked_of}
-pub use Rattle.just_justfile.specs.Running.{CanRun, HoldsOverridden, TellsBareLines}
+pub use Rattle.just_justfile.specs.Running.{CanRun, HoldsOverridden}
 pub use Rattle.just_justfile.specs.Walks.{AreOrdered, AreModulesOrdered}
 pub use Rattle.just_scopes.specs.Opening.{handed_of, setup_of}
 pub use Rattle.just_overrides.specs.Inserted.{AreAsBefore}

@@ -113,8 +113,8 @@ pub mod evaluation {
 pub mod listing {
     pub use just_ast_definitions::ShownAlias;
     pub use just_listings::{
-        AliasListing, GroupListing, Listing, ModuleListing, RecipeListing, RecursiveListing,
-        ShownJustfile, SpacedPath, Stability, shown,
+        AliasListing, GroupListing, ListedAlias, Listing, ModuleListing, RecipeListing,
+        RecursiveListing, ShownJustfile, SpacedPath, Stability, shown,
     };
     pub use just_recipe::RecipeSignature;
 }
@@ -133,8 +133,8 @@ pub use evaluation::{EvaluationTarget, EvaluationTargets};
 pub use invocation_parser::{Invocation, InvocationParser};
 pub use justfile::{Justfile, RecipeKey, Report, Run};
 pub use listing::{
-    AliasListing, GroupListing, Listing, ModuleListing, RecipeListing, RecipeSignature,
-    RecursiveListing, ShownAlias, ShownJustfile, SpacedPath, Stability, shown,
+    AliasListing, GroupListing, ListedAlias, Listing, ModuleListing, RecipeListing,
+    RecipeSignature, RecursiveListing, ShownAlias, ShownJustfile, SpacedPath, Stability, shown,
 };
 pub use modulepath::Modulepath;
 pub use recipe::{Recipe, Recipes, RunRecipe};

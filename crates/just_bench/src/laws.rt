@@ -1,6 +1,5 @@
 //! Laws: calls that do nothing, whose contracts say what the layers of the bench keep.
 ghost use Rattle.std.specs.Prelude.{◌≡◌, List, Some};
-ghost use Rattle.just_justfile.specs.Running.{TellsBareLines};
 ghost use Rattle.just_run_layers.specs.declared.host.Entry.{Entry};
 ghost use Rattle.just_run_layers.specs.Host.{Answer};
 ghost use Rattle.just_run_layers.specs.LineTexts.{AgreesWith};
@@ -23,11 +22,10 @@ pub fn each_answer_is_promised(host: &Recorder, evaluation: &PlainEvaluation)
 {}
 
 /// The plain grammar and the plain evaluation take the lines of bodies alike: which sigils a line begins with, and whether the
-/// next one goes on with it. What a line is to the grammar does not hang on the numbers in it. The call does nothing.
+/// next one goes on with it. The call does nothing.
 pub fn layers_agree_on_lines<'a>(syntax: &PlainSyntax<'a>)
-    ensures agree { let evaluation = ⟦<PlainEvaluation as Evaluation>⟧ in
+    ensures { let evaluation = ⟦<PlainEvaluation as Evaluation>⟧ in
         AgreesWith evaluation.sigils evaluation.continues (⟦<PlainSyntax<'a> as Syntax>⟧.answers syntax.now) }
-    ensures bare { TellsBareLines (⟦<PlainSyntax<'a> as Syntax>⟧.answers syntax.now) }
 {}
 
 /// What a script promises of a call is what it answers. The call does nothing.

@@ -10,6 +10,7 @@ use Rattle.just_parts.specs.Items.{Ast}
 use Rattle.just_parts.specs.Syntax.{SyntaxAnswers}
 use Rattle.just_ast_expressions.specs.declared.keyword.Keyword.{Keyword}
 use Rattle.just_bench_syntax.specs.declared.items.Items.{Items}
+use Rattle.just_bench_syntax.specs.BareLines.{comment_bare, continuation_bare}
 use Rattle.just_bench_syntax.specs.Items.{items_of}
 use Rattle.just_bench_syntax.specs.Conflicts.{conflicts}
 use Rattle.just_bench_syntax.specs.Numbering.{counted}
@@ -44,6 +45,8 @@ answers pairs = record {
   is_comment = sigil.is_comment;
   is_continuation = sigil.is_continuation;
   is_shebang = sigil.is_shebang;
+  comments = comment_bare;
+  continuations = continuation_bare;
   shebang = shebang;
   constant = λ _. None;
   builtin = builtin;

@@ -2,6 +2,7 @@ pub mod Items
 pub mod Proper
 pub mod Recipe
 pub mod Answers
+pub mod BareLines
 pub mod Conflicts
 pub mod Numbering
 pub mod Refusal

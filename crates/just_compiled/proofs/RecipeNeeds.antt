@@ -8,7 +8,7 @@ use Rattle.just_compiled.specs.Analysis.{completion_in}
 use Rattle.just_compiled.specs.Justfiles.{Built, IsCompiled, Made, recipes_of_all, value_by}
 use Rattle.just_compiled.proofs.ScopesAlike.{IsNumberedOf, scopes_alike}
 use Rattle.just_compiled.proofs.ScopesRead.{numbers_alike, read_alike}
-use Rattle.just_justfile.specs.Running.{HasNeeds, IsReadBy, TellsBareLines, arguments_of, known_by_tables}
+use Rattle.just_justfile.specs.Running.{HasNeeds, IsReadBy, arguments_of, known_by_tables}
 use Rattle.just_justfile.specs.declared.justfile.Justfile.{Justfile, out-Justfile}
 use Rattle.just_module_contents.specs.RecipeNames.{written_scopes}
 use Rattle.just_module_recipes.specs.Completing.{Completion}
@@ -60,27 +60,26 @@ module _ (value : Expression → Option (List Text)) (answers : SyntaxAnswers) (
       dependencies = all_whole Stands HasNumber completed lists all (completed.by source).dependencies made.dependencies is.dependencies;
     }
 
-    module _ (tells : TellsBareLines answers) where
-      abbrev here : List Scoped
-      here = scopes_of arguments_of answers settings made
+    abbrev here : List Scoped
+    here = scopes_of arguments_of answers settings made
 
-      abbrev written : List Scoped
-      written = written_scopes answers settings source
+    abbrev written : List Scoped
+    written = written_scopes answers settings source
 
-      read_on : (name : Text) → IsReadInScopes (known_by_tables j) written name → IsReadBy answers j made name
-      read_on name r =
-          let x = read_alike (known_by_tables j) written here (sym (scopes_alike answers tells settings value number source made numbered_of)) name r in
-          record { from = x.from; there = x.there; reads = x.reads }
+    read_on : (name : Text) → IsReadInScopes (known_by_tables j) written name → IsReadBy answers j made name
+    read_on name r =
+        let x = read_alike (known_by_tables j) written here (sym (scopes_alike answers settings value number source made numbered_of)) name r in
+        record { from = x.from; there = x.there; reads = x.reads }
 
-      read_back : (name : Text) → IsReadBy answers j made name → IsReadInScopes (known_by_tables j) written name
-      read_back name r = read_alike (known_by_tables j) here written (scopes_alike answers tells settings value number source made numbered_of) name (record { from = r.from; there = r.there; reads = r.reads })
+    read_back : (name : Text) → IsReadBy answers j made name → IsReadInScopes (known_by_tables j) written name
+    read_back name r = read_alike (known_by_tables j) here written (scopes_alike answers settings value number source made numbered_of) name (record { from = r.from; there = r.there; reads = r.reads })
 
-      -- a recipe that is made has the numbers of what it needs
-      pub made_needs : HasTables j → HasNeeds answers j made
-      made_needs tables n =
-          numbers_alike (known_by_tables j) (has_number (out-Justfile j).overridden) (IsReadInScopes (known_by_tables j) written) (IsReadBy answers j made) made.variable_references read_on read_back is.references tables.apart n
+    -- a recipe that is made has the numbers of what it needs
+    pub made_needs : HasTables j → HasNeeds answers j made
+    made_needs tables n =
+        numbers_alike (known_by_tables j) (has_number (out-Justfile j).overridden) (IsReadInScopes (known_by_tables j) written) (IsReadBy answers j made) made.variable_references read_on read_back is.references tables.apart n
 
-module _ (given : Given) (asts : AstKey → Option Ast) (loaded : List Text) (built : List Built) {m : Module} {below : Forest} {inner : List Justfile} {made : Made} {j : Justfile} (is : IsCompiled given asts loaded (recipes_of_all built) m below inner made j) (tells : TellsBareLines given.syntax) where
+module _ (given : Given) (asts : AstKey → Option Ast) (loaded : List Text) (built : List Built) {m : Module} {below : Forest} {inner : List Justfile} {made : Made} {j : Justfile} (is : IsCompiled given asts loaded (recipes_of_all built) m below inner made j) where
   -- so does each that the module adds
   pub has_needs : (r : Recipe Dependency) → Contains made.recipes r → HasNeeds given.syntax j r
-  has_needs r there = made_needs (value_by given asts m is.evaluated.it) given.syntax j (is.linked.only r there).1.made_of tells is.tables
+  has_needs r there = made_needs (value_by given asts m is.evaluated.it) given.syntax j (is.linked.only r there).1.made_of is.tables

@@ -33,7 +33,8 @@ use Rattle.just_recipe.specs.declared.dependency.DependencyArgument.{DependencyA
 use Rattle.just_recipe.specs.declared.dependency.UnresolvedDependency.{UnresolvedDependency}
 use Rattle.just_recipe.specs.declared.recipe.Recipe.{Recipe}
 use Rattle.just_recipe_names.specs.Numbered.{attribute_by, dependency_by, fragment_by, given_by, line_by, attribute_with, numbered_body, numbered_parameters, parameter_by, property_by, shell_lines_by, under_parameters}
-use Rattle.just_justfile.specs.Running.{TellsBareLines, arguments_of, bare_fragment, bare_line}
+use Rattle.just_justfile.specs.Running.{arguments_of}
+use Rattle.just_parts.specs.Bare.{bare_fragment, bare_line}
 use Rattle.just_recipe_values.specs.Valued.{informed, valued_attribute, valued_named}
 
 -- what is seen of an expression in its scope: which names are hidden there, and what it mentions
@@ -245,7 +246,7 @@ pub record IsNumberedOf (answers : SyntaxAnswers) (settings : Settings) (value :
   pub shebang : made.shebang ≡ source.shebang
   pub dependencies : AllZip (λ (d : UnresolvedDependency) (m : Dependency). arguments_of m ≡ d.arguments) (map (dependency_by (under_parameters number source.parameters)) source.dependencies) made.dependencies
 
-module _ (answers : SyntaxAnswers) (tells : TellsBareLines answers) (settings : Settings) (value : Expression → Option (List Text)) (number : List Parameter → Text → Option Number) (source : Recipe UnresolvedDependency) (made : Recipe Dependency) (is : IsNumberedOf answers settings value number source made) where
+module _ (answers : SyntaxAnswers) (settings : Settings) (value : Expression → Option (List Text)) (number : List Parameter → Text → Option Number) (source : Recipe UnresolvedDependency) (made : Recipe Dependency) (is : IsNumberedOf answers settings value number source made) where
   abbrev by : Expression → Expression
   by = under_parameters number source.parameters
 
@@ -256,10 +257,10 @@ module _ (answers : SyntaxAnswers) (tells : TellsBareLines answers) (settings : 
   by_same = keeps_mentions (number source.parameters)
 
   comments : (line : Line) → answers.is_comment (line_by by line) ≡ answers.is_comment line
-  comments line = sym (tells.comments (line_by by line)) ∙ ap answers.is_comment (line_bare (number source.parameters) line) ∙ tells.comments line
+  comments line = sym (answers.comments (line_by by line)) ∙ ap answers.is_comment (line_bare (number source.parameters) line) ∙ answers.comments line
 
   continuations : (line : Line) → answers.is_continuation (line_by by line) ≡ answers.is_continuation line
-  continuations line = sym (tells.continuations (line_by by line)) ∙ ap answers.is_continuation (line_bare (number source.parameters) line) ∙ tells.continuations line
+  continuations line = sym (answers.continuations (line_by by line)) ∙ ap answers.is_continuation (line_bare (number source.parameters) line) ∙ answers.continuations line
 
   attributes_alike : (has : Attribute Expression → List Expression) → ((a : Attribute Expression) → map mentions (has (changed value (under_parameters number []) by a)) ≡ map mentions (has a))
       → map mentions (in_attributes has made) ≡ map mentions (in_attributes has source)

@@ -13,7 +13,7 @@ use Rattle.just_graph.proofs.Index.{some_same}
 use Rattle.just_graph.proofs.Members.{In, contained, from_flat, is_in}
 use Rattle.just_justfile.proofs.Returning.{found_by_path}
 use Rattle.just_justfile.specs.Closed.{AreClosed, StandsIn}
-use Rattle.just_justfile.specs.Running.{CanRun, HasNeeds, TellsBareLines}
+use Rattle.just_justfile.specs.Running.{CanRun, HasNeeds}
 use Rattle.just_justfile.specs.Walks.{inner_along}
 use Rattle.just_justfile.specs.declared.justfile.Justfile.{Justfile, out-Justfile}
 use Rattle.just_loader.specs.Reached.{World}
@@ -37,8 +37,8 @@ one_of_path recipes root i j closed top stands other same =
 module _ (evaluator : Evaluator) (overrides : Overrides) (w : World) (asts : AstKey → Option Ast) (paths : (k : AstKey) (a : Ast) → asts k ≡ Some a → a.module_path ≡ k.0) (loaded : List Text) (justfile : Justfile) (recipes : List (Recipe Dependency)) (overridden : List (Number × Text))
     (analyzed : IsAnalyzed (given_in evaluator overrides w) asts loaded (root_heading w) justfile recipes overridden) where
   -- each recipe has what it needs of the module of its path
-  needs : TellsBareLines w.answers → (j : Justfile) (r : Recipe Dependency) → StandsIn justfile j → Contains recipes r → r.module_path ≡ Some (out-Justfile j).module_path → HasNeeds w.answers j r
-  needs tells j r stands there path =
+  needs : (j : Justfile) (r : Recipe Dependency) → StandsIn justfile j → Contains recipes r → r.module_path ≡ Some (out-Justfile j).module_path → HasNeeds w.answers j r
+  needs j r stands there path =
       let given = given_in evaluator overrides w in
       let of = from_flat (λ (b : Built). b.1.recipes) r analyzed.built (subst (In r) analyzed.all (is_in r recipes there)) in
       let told = contained of.0 analyzed.built of.1 in
@@ -52,7 +52,7 @@ module _ (evaluator : Evaluator) (overrides : Overrides) (w : World) (asts : Ast
       let from = s.compiled.linked.only r (contained r s.made.recipes added) in
       let one : s.it ≡ j = one_of_path recipes justfile s.it j analyzed.closed (rooted evaluator overrides w asts paths loaded justfile recipes overridden analyzed) (subst (λ (t : Justfile). StandsIn t s.it) top s.stands) stands
       (s.path ∙ some_same (sym from.1.made_of.resolved.module_path ∙ path)) in
-      subst (λ (k : Justfile). HasNeeds w.answers k r) one (has_needs given asts loaded analyzed.built s.compiled tells r (contained r s.made.recipes added))
+      subst (λ (k : Justfile). HasNeeds w.answers k r) one (has_needs given asts loaded analyzed.built s.compiled r (contained r s.made.recipes added))
 
   -- so the root can run
   pub can_run : CanRun w.answers justfile recipes

@@ -137,7 +137,7 @@ fn add_compilation<'pairs>(
             text,
         ),
         "evaluate" => add_values(justfile, recipes, overrides, alloc, syntax, asked, text),
-        "dump" | "groups" | "list" | "show" | "tell" => {
+        "dump" | "groups" | "list" | "print" | "show" | "tell" => {
             add_listing(justfile, recipes, alloc, kind, word, text)
         }
         "variable" => add_variable(alloc, justfile, word, text),
@@ -187,13 +187,14 @@ fn answer_compiled(
 }
 
 // The questions of what a bundle is compiled to: words, and calls of a compilation, of the root's module or of a recipe.
-const OF_COMPILED: [&str; 33] = [
+const OF_COMPILED: [&str; 34] = [
     "just",
     "command",
     "dump",
     "evaluate",
     "groups",
     "list",
+    "print",
     "show",
     "tell",
     "variable",

@@ -6,6 +6,7 @@ pub mod calls;
 mod item_lines;
 mod items;
 pub mod listings;
+mod printed;
 pub mod searches;
 mod texts;
 pub mod traits;

@@ -1,4 +1,5 @@
 //! What listings show of the root's module, and how it is written.
+use crate::printed::add_printed;
 use crate::texts::{add_dump, add_shown};
 use just_justfile::{Justfile, Recipes};
 use just_listings::{
@@ -168,8 +169,8 @@ fn add_told(recipes: &Recipes, text: &mut String) -> Result<(), AllocError> {
     Ok(())
 }
 
-/// Adds what a question asks of listings: what they show of the root's module, its groups, what they tell of each recipe, the
-/// module as it is written, or else the one of its recipes or variables that a word names.
+/// Adds what a question asks of listings: what they show of the root's module, the same as a user reads it, its groups, what
+/// they tell of each recipe, the module as it is written, or else the one of its recipes or variables that a word names.
 pub fn add_listing<'src>(
     root: &Justfile<'src>,
     recipes: &Recipes<'src>,
@@ -182,6 +183,7 @@ pub fn add_listing<'src>(
         "dump" => add_dump(root, recipes, alloc, text),
         "groups" => add_groups(root, recipes, alloc, word, text),
         "list" => add_listed(root, recipes, alloc, word, text),
+        "print" => add_printed(root, recipes, alloc, word, text),
         "tell" => add_told(recipes, text),
         _ => add_shown(root, recipes, alloc, word, text),
     }

@@ -3,7 +3,7 @@ ghost use Rattle.std.specs.List.{All};
 ghost use Rattle.just_tasks.specs.Pairs.{AllBelow};
 ghost use Rattle.just_justfile.specs.Closed.{IsHeld};
 ghost use Rattle.just_justfile.specs.declared.justfile.Justfile.{Justfile};
-ghost use Rattle.just_justfile.specs.Running.{CanRun, HoldsOverridden, TellsBareLines};
+ghost use Rattle.just_justfile.specs.Running.{CanRun, HoldsOverridden};
 ghost use Rattle.just_recipe.specs.Recipes.{IsResolved};
 ghost use Rattle.just_run_layers.specs.Host.{KeepsPromises};
 ghost use Rattle.just_run_layers.specs.LineTexts.{AgreesWith};
@@ -71,7 +71,6 @@ pub(crate) fn run_invocations<'src, S: Syntax, E: Evaluation, H: Host>(
     requires can_run { CanRun (S.answers syntax.now) root.now recipes.now }
     requires overridden { HoldsOverridden root.now overrides.now }
     requires same { AgreesWith E.sigils E.continues (S.answers syntax.now) }
-    requires bare { TellsBareLines (S.answers syntax.now) }
     requires held { All (λ (i : Invocation). IsHeld recipes.now i.recipe.now) invocations.now }
     ensures keeps { KeepsPromises (E.promised evaluation.old) (E.promised evaluation.new) }
     ensures keeps_host { KeepsPromises (H.promised host.old) (H.promised host.new) }

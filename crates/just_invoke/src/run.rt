@@ -1,6 +1,6 @@
 //! The run of a module: of what command words mean, or of the forms Command and Evaluate.
 ghost use Rattle.std.specs.Prelude.{◌≡◌, ◌≤◌, true, length, IfErr, OnOk};
-ghost use Rattle.just_justfile.specs.Running.{CanRun, HoldsOverridden, TellsBareLines};
+ghost use Rattle.just_justfile.specs.Running.{CanRun, HoldsOverridden};
 ghost use Rattle.just_justfile.specs.declared.justfile.Justfile.{Justfile};
 ghost use Rattle.just_names.specs.Texts.{texts};
 ghost use Rattle.just_parts.specs.Evaluator.{count_fault_of};
@@ -55,7 +55,6 @@ fn run_words<'src, S: Syntax, E: Evaluation, H: Host>(
     requires can_run { CanRun (S.answers syntax.now) root.now recipes.now }
     requires overridden { HoldsOverridden root.now overrides.now }
     requires same { AgreesWith E.sigils E.continues (S.answers syntax.now) }
-    requires bare { TellsBareLines (S.answers syntax.now) }
     ensures keeps { KeepsPromises (E.promised evaluation.old) (E.promised evaluation.new) }
     ensures keeps_host { KeepsPromises (H.promised host.old) (H.promised host.new) }
     ensures outcome { let counts = count_fault_of (E.answers evaluation.old) in
@@ -100,7 +99,7 @@ pub trait Run<'src> {
     ghost use Rattle.just_run_layers.specs.LineTexts.{AgreesWith};
     ghost use Rattle.just_run_layers.specs.Interactions.{log_of};
     ghost use Rattle.just_names.specs.Texts.{texts};
-    ghost use Rattle.just_justfile.specs.Running.{CanRun, HoldsOverridden, TellsBareLines};
+    ghost use Rattle.just_justfile.specs.Running.{CanRun, HoldsOverridden};
     ghost use Rattle.just_invoke.specs.Command.{AsksForProgram, IsProgramRun, IsProgramRunAsExpected};
     ghost use Rattle.just_invoke.specs.Evaluation.{AsksForValues, IsEvaluation, IsEvaluationAsExpected, RunsRecipes, WritesNothing, writer_of};
     ghost use Rattle.just_invoke.specs.Outcome.{RunsAsExpected, IsOutcome};
@@ -136,8 +135,7 @@ pub trait Run<'src> {
     /// `Dotenv` and `Evaluate` come where the host or the evaluation answers a fault.
     ///
     /// What compiling answers can run, and its overrides have all that the analysis saw. In the form Run the evaluation takes the
-    /// lines of bodies as the grammar does: which sigils they begin with, and which go on; and what a line is does not hang on
-    /// the numbers in it.
+    /// lines of bodies as the grammar does: which sigils they begin with, and which go on.
     fn run<S: Syntax, E: Evaluation, H: Host, W: Output>(
         &self,
         alloc: Global,
@@ -153,7 +151,6 @@ pub trait Run<'src> {
         requires can_run { CanRun (S.answers syntax.now) (root self.now) recipes.now }
         requires overridden { HoldsOverridden (root self.now) overrides.now }
         requires same { RunsRecipes config.now → AgreesWith E.sigils E.continues (S.answers syntax.now) }
-        requires bare { RunsRecipes config.now → TellsBareLines (S.answers syntax.now) }
         // Promises are kept.
         ensures keeps { KeepsPromises (E.promised evaluation.old) (E.promised evaluation.new) }
         ensures keeps_host { KeepsPromises (H.promised host.old) (H.promised host.new) }

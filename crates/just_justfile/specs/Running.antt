@@ -4,10 +4,6 @@ use Rattle.std.proofs.Common.{BuildHasherDefault, FoldHasher}
 use Rattle.std.specs.HashMap.{HashMap}
 use Rattle.std.specs.List.{Contains}
 use Rattle.just_ast_definitions.specs.declared.assignment.Assignment.{Assignment}
-use Rattle.just_ast_definitions.specs.declared.line.Fragment.{Fragment}
-use Rattle.just_ast_definitions.specs.declared.line.Fragment.TheVariants as fragment
-use Rattle.just_ast_definitions.specs.declared.line.Line.{Line}
-use Rattle.just_ast_references.specs.Numbers.{bare}
 use Rattle.just_names.specs.Index.{texts_of_names}
 use Rattle.just_names.specs.Texts.{Text}
 use Rattle.just_names.specs.declared.number.Number.{Number}
@@ -46,31 +42,18 @@ NeedsIn j = Needs (known_by_tables j) (overridden_by (has_number (out-Justfile j
 abbrev pub HasNeeds : SyntaxAnswers → Justfile → Recipe Dependency → Type 0
 HasNeeds answers j r = (n : Number) → Contains r.variable_references n ↔ IsNumberIn (known_by_tables j) (NeedsIn j (IsReadBy answers j r)) n
 
--- a line without numbers
-abbrev pub bare_fragment : Fragment → Fragment
-bare_fragment (fragment.Text token) = fragment.Text token
-bare_fragment (fragment.Interpolation e) = fragment.Interpolation (bare e)
-
-abbrev pub bare_line : Line → Line
-bare_line line = record line { fragments = map bare_fragment line.fragments }
-
--- What a line is does not hang on the numbers in it.
-pub record TellsBareLines (answers : SyntaxAnswers) : Type 0 where
-  pub comments : (line : Line) → answers.is_comment (bare_line line) ≡ answers.is_comment line
-  pub continuations : (line : Line) → answers.is_continuation (bare_line line) ≡ answers.is_continuation line
-
 -- No two variables of modules that stand in one have one number: where two have, they are one variable of one module, by its path and by the name.
 abbrev pub HaveOwnNumbers : Justfile → Type 0
 HaveOwnNumbers root = (i j : Justfile) (x y : Text) (a b : Assignment) → StandsIn root i → StandsIn root j
     → find x (out-Justfile i).assignments ≡ Some a → find y (out-Justfile j).assignments ≡ Some b → a.number ≡ b.number
     → ((out-Justfile i).module_path ≡ (out-Justfile j).module_path) × (x ≡ y)
 
--- The root with these recipes can run under a grammar: it is rooted, each module that stands in it has an order in which its variables are evaluated, no two variables have one number, and each recipe has the numbers of what it needs of its module, where what a line is does not hang on numbers.
+-- The root with these recipes can run under a grammar: it is rooted, each module that stands in it has an order in which its variables are evaluated, no two variables have one number, and each recipe has the numbers of what it needs of its module.
 pub record CanRun (answers : SyntaxAnswers) (root : Justfile) (recipes : List (Recipe Dependency)) : Type 0 where
   pub rooted : IsRooted root recipes
   pub ordered : (j : Justfile) → StandsIn root j → IsEvaluationOrder (known_by_tables j) (texts_of_names (out-Justfile j).evaluation_order)
   pub numbers : HaveOwnNumbers root
-  pub needs : TellsBareLines answers → (j : Justfile) (r : Recipe Dependency) → StandsIn root j → Contains recipes r → r.module_path ≡ Some (out-Justfile j).module_path → HasNeeds answers j r
+  pub needs : (j : Justfile) (r : Recipe Dependency) → StandsIn root j → Contains recipes r → r.module_path ≡ Some (out-Justfile j).module_path → HasNeeds answers j r
 
 -- some values override all that the analysis saw as overridden
 abbrev pub HoldsOverridden : {V : Type 0} → Justfile → HashMap Number V (BuildHasherDefault FoldHasher) → Type 0

@@ -6,6 +6,7 @@ mod alias_listing;
 mod group_listing;
 mod groups;
 pub mod laws;
+mod listed_alias;
 mod listing;
 mod module_listing;
 mod modules;
@@ -22,6 +23,7 @@ mod walk;
 
 pub use alias_listing::AliasListing;
 pub use group_listing::GroupListing;
+pub use listed_alias::ListedAlias;
 pub use listing::Listing;
 pub use module_listing::ModuleListing;
 pub use recipe_listing::RecipeListing;

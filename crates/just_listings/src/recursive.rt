@@ -1,16 +1,14 @@
 //! What listings show of a module and of the public modules below it.
 ghost use Rattle.std.specs.Prelude.{◌≡◌, ◌++◌, map, IfOk, OnOk};
-ghost use Rattle.std.specs.List.{list_any};
-ghost use Rattle.just_recipe_run.specs.Calls.{says_private};
 ghost use Rattle.just_listings.specs.Below.{ArePublicAliasesBelow, ArePublicRecipesBelow};
 ghost use Rattle.just_listings.specs.Order.{referents};
-ghost use Rattle.just_listings.specs.Public.{alias_behind, aliases_shown, is_public_alias};
+ghost use Rattle.just_listings.specs.Public.{alias_behind, aliases_shown};
 
+use crate::listed_alias::ListedAlias;
 use crate::recipes::public_recipes;
 use crate::walk::{preorder, public_choice};
 use just_justfile::{Justfile, RecipeAlias};
 use just_parts::Recipe;
-use just_parts::layers::{Attribute, NamedAttribute};
 use just_paths::Modulepath;
 use just_recipes::Recipes;
 use std::alloc::{AllocError, Global};
@@ -33,22 +31,6 @@ pub(crate) fn public_recipes_below<'run, 'src>(
     Ok(found)
 }
 
-// Whether an attribute says that a listing leaves it out.
-fn has_private(attributes: &[NamedAttribute]) -> bool
-    ensures { result ≡ list_any says_private attributes.now }
-{
-    attributes
-        .iter()
-        .any(|named| matches!(named.attribute, Attribute::Private))
-}
-
-// Whether an alias is private neither by its name nor by an attribute.
-fn is_public_alias<'src>(alias: &RecipeAlias<'src>) -> bool
-    ensures { result ≡ is_public_alias alias.now }
-{
-    !alias.name.lexeme().starts_with('_') && !has_private(alias.attributes.as_slice())
-}
-
 // Adds the public aliases of the recipes of a module, each with the path of the module.
 fn add_aliases<'run, 'src>(
     found: &mut Vec<(&'run RecipeAlias<'src>, &'run Modulepath)>,
@@ -57,7 +39,7 @@ fn add_aliases<'run, 'src>(
     ensures { OnOk result (map alias_behind found.new.items ≡ map alias_behind found.old.items ++ aliases_shown justfile.now) }
 {
     for alias in justfile.aliases.recipes.values() {
-        if is_public_alias(alias) {
+        if alias.is_public() {
             found.push((alias, &justfile.module_path))?;
         }
     }

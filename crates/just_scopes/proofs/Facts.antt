@@ -15,7 +15,7 @@ use Rattle.just_tasks.specs.declared.task.Task.{Task}
 use Rattle.just_tasks.proofs.Places.{All-got}
 use Rattle.just_graph.proofs.Members.{In, contained, from_reverse}
 use Rattle.just_justfile.specs.Closed.{IsPlaced, StandsIn}
-use Rattle.just_justfile.specs.Running.{CanRun, HoldsOverridden, TellsBareLines, arguments_of, known_by_tables}
+use Rattle.just_justfile.specs.Running.{CanRun, HoldsOverridden, arguments_of, known_by_tables}
 use Rattle.just_justfile.specs.declared.justfile.Justfile.{Justfile, out-Justfile}
 use Rattle.just_name_resolution.proofs.Placed.{the_value}
 use Rattle.just_name_resolution.proofs.Sets.{number_itself, or_left, or_right}
@@ -58,20 +58,20 @@ binds-any (y ∷ xs) x n (inl same) e = or_left (same_number y.number n) (list_a
 binds-any (y ∷ xs) x n (inr i) e = or_right (same_number y.number n) (list_any (λ (b : Binding). same_number b.number n) xs) (binds-any xs x n i e)
 
 module _ (answers : SyntaxAnswers) (root : Justfile) (recipes : List (Recipe Dependency)) (tops : List Task) (used : Number → Bool) (handed : Handed)
-    (run : CanRun answers root recipes) (bare : TellsBareLines answers) (are : AreUsed recipes tops used) where
+    (run : CanRun answers root recipes) (are : AreUsed recipes tops used) where
   -- what is wanted of a module is what is to be bound in it
   wanted-bound : {j : Justfile} {lazy : Bool} {set : NumberSet} → StandsIn root j → IsSetFor used j lazy set → (name : Text) → ((wanted_from handed j set).needed name ≡ true) ↔ IsToBeBound lazy answers recipes tops j name
   wanted-bound {j = j} stands (some {set = set} found) name = (
     (λ h. there (find name (out-Justfile j).assignments) refl h),
     (λ n. let v = the_value (find name (out-Justfile j).assignments) (needed-some name n) in
         ap (λ o. option_map_or (λ (a : Assignment). set a.number) o false) v.1
-        ∙ (found-needed answers root recipes tops used run bare are j stands set found v.0.number).1 (record { name = name; assigned = v.0; is = v.1; number = refl; there = n })),
+        ∙ (found-needed answers root recipes tops used run are j stands set found v.0.number).1 (record { name = name; assigned = v.0; is = v.1; number = refl; there = n })),
   )
     where
       there : (o : Option Assignment) → find name (out-Justfile j).assignments ≡ o → option_map_or (λ (a : Assignment). set a.number) o false ≡ true → IsNeededVariable answers recipes tops j name
       there None is h = cc
       there (Some a) is h =
-          let i = (found-needed answers root recipes tops used run bare are j stands set found a.number).0 h in
+          let i = (found-needed answers root recipes tops used run are j stands set found a.number).0 h in
           subst (IsNeededVariable answers recipes tops j) (run.numbers j j i.name name i.assigned a stands stands i.is is i.number).1 i.there
   wanted-bound {j = j} stands all name = (
     (λ h. some-of (find name (out-Justfile j).assignments) h),

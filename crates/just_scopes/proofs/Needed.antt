@@ -9,7 +9,7 @@ use Rattle.just_tasks.proofs.Places.{All-got}
 use Rattle.just_tasks.specs.declared.task.Task.{Task}
 use Rattle.just_graph.proofs.Members.{In, contained}
 use Rattle.just_justfile.specs.Closed.{IsPlaced, StandsIn}
-use Rattle.just_justfile.specs.Running.{CanRun, HasNeeds, IsReadBy, NeedsIn, TellsBareLines, known_by_tables}
+use Rattle.just_justfile.specs.Running.{CanRun, HasNeeds, IsReadBy, NeedsIn, known_by_tables}
 use Rattle.just_justfile.specs.declared.justfile.Justfile.{Justfile, out-Justfile}
 use Rattle.just_name_resolution.proofs.Placed.{the_value}
 use Rattle.just_name_resolution.proofs.Searching.{not_overridden}
@@ -75,13 +75,13 @@ pub numbers-apart : (answers : SyntaxAnswers) (root : Justfile) (recipes : List 
 numbers-apart answers root recipes run j stands x y a b is there same = (run.numbers j j x y a b stands stands is there same).1
 
 module _ (answers : SyntaxAnswers) (root : Justfile) (recipes : List (Recipe Dependency)) (tops : List Task) (used : Number → Bool)
-    (run : CanRun answers root recipes) (bare : TellsBareLines answers) (are : AreUsed recipes tops used) (j : Justfile) (stands : StandsIn root j) where
+    (run : CanRun answers root recipes) (are : AreUsed recipes tops used) (j : Justfile) (stands : StandsIn root j) where
   -- a number of a recipe that is that of a variable of this module is one of this module's recipe
   from-used : (name : Text) (a : Assignment) → find name (out-Justfile j).assignments ≡ Some a → used a.number ≡ true → IsNeededVariable answers recipes tops j name
   from-used name a is u =
       let r = (are a.number).0 u in
       let p = All-got (IsPlaced root) recipes r.place r.recipe run.rooted.placed r.at in
-      let needs : HasNeeds answers p.0 r.recipe = run.needs bare p.0 r.recipe p.1 (contained r.recipe recipes (got-in recipes r.place r.recipe r.at)) p.2 in
+      let needs : HasNeeds answers p.0 r.recipe = run.needs p.0 r.recipe p.1 (contained r.recipe recipes (got-in recipes r.place r.recipe r.at)) p.2 in
       let n = (needs a.number).0 r.there in
       let same = run.numbers p.0 j n.name name n.assigned a p.1 stands n.is is n.number in
       let own : p.0 ≡ j = own_paths recipes root p.0 j run.rooted.closed p.1 stands same.0 in
@@ -99,7 +99,7 @@ module _ (answers : SyntaxAnswers) (root : Justfile) (recipes : List (Recipe Dep
   needed-start name (chosen a is c) = starts (record { assigned = a; is = is; starts = or_right (used a.number) (is_chosen (out-Justfile j).settings a) c })
   needed-start name (read place r runs reads) =
       let v = the_value (find name (out-Justfile j).assignments) (reads-some reads.reads) in
-      let needs : HasNeeds answers j r = run.needs bare j r stands (contained r recipes (got-in recipes place r runs.there)) runs.path in
+      let needs : HasNeeds answers j r = run.needs j r stands (contained r recipes (got-in recipes place r runs.there)) runs.path in
       let there = (needs v.0.number).1 (record { name = name; assigned = v.0; is = v.1; number = refl; there = starts reads }) in
       let u : used v.0.number ≡ true = (are v.0.number).1 (record { place = place; recipe = r; led = runs.led; at = runs.there; there = there }) in
       starts (record { assigned = v.0; is = v.1; starts = or_left (used v.0.number) (is_chosen (out-Justfile j).settings v.0) u })
@@ -118,9 +118,9 @@ module _ (answers : SyntaxAnswers) (root : Justfile) (recipes : List (Recipe Dep
   )
 
 -- there is one collection of sets of what is needed
-pub sets-found : (answers : SyntaxAnswers) (root : Justfile) (recipes : List (Recipe Dependency)) (tops : List Task) (used : Number → Bool) → CanRun answers root recipes → TellsBareLines answers → AreUsed recipes tops used →
+pub sets-found : (answers : SyntaxAnswers) (root : Justfile) (recipes : List (Recipe Dependency)) (tops : List Task) (used : Number → Bool) → CanRun answers root recipes → AreUsed recipes tops used →
     (sets : NumberSets) → AreNeeds answers root recipes tops sets → (j : Justfile) → StandsIn root j → IsFound used j (sets j)
-sets-found answers root recipes tops used run bare are sets needs j stands = needed-found answers root recipes tops used run bare are j stands (sets j) (needs j stands)
+sets-found answers root recipes tops used run are sets needs j stands = needed-found answers root recipes tops used run are j stands (sets j) (needs j stands)
 
 -- whatever is needed is a variable
 pub needed-some : {answers : SyntaxAnswers} {recipes : List (Recipe Dependency)} {tops : List Task} {j : Justfile} (name : Text) → IsNeededVariable answers recipes tops j name → IsSome (find name (out-Justfile j).assignments)

@@ -5,7 +5,7 @@ ghost use Rattle.std.specs.HashSet.{contains};
 ghost use Rattle.std.specs.List.{All, Contains};
 ghost use Rattle.just_run_layers.specs.loops.Interactions.{AsksAlone};
 ghost use Rattle.just_tasks.specs.Pairs.{AllBelow};
-ghost use Rattle.just_justfile.specs.Running.{CanRun, HoldsOverridden, TellsBareLines, known_by_tables};
+ghost use Rattle.just_justfile.specs.Running.{CanRun, HoldsOverridden, known_by_tables};
 ghost use Rattle.just_justfile.specs.declared.justfile.Justfile.{out-Justfile};
 ghost use Rattle.just_parts.specs.Evaluator.{Binds};
 ghost use Rattle.just_parts.specs.Needs.{HaveNumbersApart, IsClosed, has_number, same_number};
@@ -313,7 +313,6 @@ pub fn open_modules<'run, 'src, S: Syntax, E: Evaluation, H: Host>(
 ) -> Result<Vec<OpenedModule<'run, 'src>>, Halt<'src>>
     requires can_run { CanRun (S.answers syntax.now) root.now recipes.now }
     requires overridden { HoldsOverridden root.now overrides.now }
-    requires bare { TellsBareLines (S.answers syntax.now) }
     requires below { AllBelow (length recipes.now) tops.now }
     ensures keeps { KeepsPromises (E.promised evaluation.old) (E.promised evaluation.new) }
     ensures keeps_host { KeepsPromises (H.promised host.old) (H.promised host.new) }

@@ -29,7 +29,7 @@ returns-clause-took g c = λ sets needs ps order.
     subst (λ xs. HasTrace (both (g.E.Evaluation.promised c.args.evaluation.now) (g.H.Host.promised c.args.host.now)) (all_opened sets handed xs) (log_of (g.H.Host.entries c.args.host.now) (g.E.Evaluation.requests c.args.evaluation.now))
     (log_of (g.H.Host.entries c.open_all.new.host) (g.E.Evaluation.requests c.open_all.new.evaluation)) (opened_in c.open_all.result)) same
     (c.open_all.ensures.took sets (λ p i.
-    sets-found answers root c.args.recipes.now c.args.tops.now (contains same_number c.in_ok-used.used) c.requires.can_run c.requires.bare c.in_ok-used.ensures sets needs p.justfile
+    sets-found answers root c.args.recipes.now c.args.tops.now (contains same_number c.in_ok-used.used) c.requires.can_run c.in_ok-used.ensures sets needs p.justfile
     (placed-stand false root ps order p (is_in p ps (subst (λ xs. Contains xs p) same i)))))
 
 pub returns-clause-open : goal.returns-clause-open
@@ -38,6 +38,6 @@ returns-clause-open g c =
     let ps = map placed c.in_ok-modules.modules.items in
     let value : map placed c.as_slice.result.now ≡ ps = ap (map placed) c.as_slice.ensures.value in
     if-both c.open_all.result
-    (λ os whose bound. are-open answers c.args.root.now c.args.recipes.now c.args.tops.now (contains same_number c.in_ok-used.used) (handed_of c.args.config.now c.args.overrides.now) c.requires.can_run c.requires.bare c.in_ok-used.ensures ps c.in_ok-modules.ensures (map opened_of os.items)
+    (λ os whose bound. are-open answers c.args.root.now c.args.recipes.now c.args.tops.now (contains same_number c.in_ok-used.used) (handed_of c.args.config.now c.args.overrides.now) c.requires.can_run c.in_ok-used.ensures ps c.in_ok-modules.ensures (map opened_of os.items)
     (whose ∙ ap (map whose_placed) value) bound)
     c.open_all.ensures.whose c.open_all.ensures.bound

@@ -45,6 +45,3 @@ returns-in-Command-clause-commanded_expected g c = λ program asks.
 
 pub run_words-requires-clause-same : goal.run_words-requires-clause-same
 run_words-requires-clause-same g c = c.requires.same (ap runs_recipes c.in-Run.is)
-
-pub run_words-requires-clause-bare : goal.run_words-requires-clause-bare
-run_words-requires-clause-bare g c = c.requires.bare (ap runs_recipes c.in-Run.is)

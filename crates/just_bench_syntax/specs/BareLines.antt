@@ -9,7 +9,7 @@ use Rattle.just_ast_definitions.specs.declared.line.Fragment.{Fragment}
 use Rattle.just_ast_definitions.specs.declared.line.Fragment.TheVariants as fragment
 use Rattle.just_ast_definitions.specs.declared.line.Line.{Line}
 use Rattle.just_bench_syntax.specs.Sigils.{back, front, is_comment, is_continuation, text_of}
-use Rattle.just_justfile.specs.Running.{bare_fragment, bare_line}
+use Rattle.just_parts.specs.Bare.{bare_fragment, bare_line}
 
 text_bare : (o : Option Fragment) → text_of (option_map bare_fragment o) ≡ text_of o
 text_bare None = refl
