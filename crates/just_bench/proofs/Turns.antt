@@ -6,16 +6,16 @@ use Rattle.just_run_layers.specs.declared.host.Entry.{Entry}
 use Rattle.just_run_layers.specs.declared.host.Entry.TheVariants as entry
 use Rattle.just_run_layers.specs.Host.{Answer, Ran, given, paired}
 use Rattle.just_bench.specs.declared.script.Script.{Script}
-use Rattle.just_bench.specs.Queue.{first_or, left_of, next_or}
+use Rattle.just_bench.specs.Queue.{first_or, left_in_queue, next_or}
 use Rattle.just_bench.specs.Recorder.{IsCalled, Recording, after_answer, answer_of, is_dotenv, is_line, is_run, is_timestamp, less, recording, refuses, success, told}
 use Rattle.just_bench.specs.Turns.{AreCalled, AreMade, AreScripted, IsRefusedNext, answers_among, count_of, one_more, picked}
 
 -- one call: its answer is the first of the queue of its kind
 module _ {A : Type 0} (is : Entry → Bool) (queue : Script → List A) (as_answer : A → Answer) (usual : A)
     (asked : (script : Script) (e : Entry) → is e ≡ true → answer_of script e ≡ as_answer (next_or (queue script) usual))
-    (takes : (script : Script) (e : Entry) → queue (after_answer script e) ≡ left_of (is e) (queue script)) where
+    (takes : (script : Script) (e : Entry) → queue (after_answer script e) ≡ left_in_queue (is e) (queue script)) where
   one : (taken : Bool) (xs : List A) (n : ℕ) (answer : Answer) (answers : List Answer) → (taken ≡ true → answer ≡ as_answer (next_or xs usual)) →
-      answers ≡ map as_answer (first_or n (left_of taken xs) usual) → picked taken answer answers ≡ map as_answer (first_or (one_more taken n) xs usual)
+      answers ≡ map as_answer (first_or n (left_in_queue taken xs) usual) → picked taken answer answers ≡ map as_answer (first_or (one_more taken n) xs usual)
   one true xs n answer answers h k = ap (λ x. x ∷ answers) (h refl) ∙ ap (λ ys. as_answer (next_or xs usual) ∷ ys) k
   one false xs n answer answers h k = k
 
@@ -25,7 +25,7 @@ module _ {A : Type 0} (is : Entry → Bool) (queue : Script → List A) (as_answ
   in-turn [] old new (a ∷ answers) h = absurd h
   in-turn (e ∷ entries) old new [] h = absurd h
   in-turn (e ∷ entries) old new (a ∷ answers) (mid, called, others) =
-      let left : queue mid.script ≡ left_of (is e) (queue old.script) = ap (λ (r : Recording). queue r.script) called.2 ∙ takes old.script e in
+      let left : queue mid.script ≡ left_in_queue (is e) (queue old.script) = ap (λ (r : Recording). queue r.script) called.2 ∙ takes old.script e in
       let rest = in-turn entries mid new answers others in
       one (is e) (queue old.script) (count_of is entries) a (answers_among is entries answers) (λ k. called.1 ∙ asked old.script e k)
       (rest ∙ ap (λ xs. map as_answer (first_or (count_of is entries) xs usual)) left)

@@ -12,9 +12,9 @@ rest [] = []
 rest (x ∷ xs) = xs
 
 -- those that are left, after one is taken or none
-abbrev pub left_of : {A : Type 0} → Bool → List A → List A
-left_of true xs = rest xs
-left_of false xs = xs
+abbrev pub left_in_queue : {A : Type 0} → Bool → List A → List A
+left_in_queue true xs = rest xs
+left_in_queue false xs = xs
 
 -- the first ones, and the usual one where none is left
 abbrev pub first_or : {A : Type 0} → ℕ → List A → A → List A

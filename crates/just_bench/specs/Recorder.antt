@@ -7,7 +7,7 @@ use Rattle.just_run_layers.specs.declared.run_answer.RunAnswer.{RunAnswer}
 use Rattle.just_errors.specs.declared.status.Status.TheVariants as status
 use Rattle.just_run_layers.specs.Host.{Answer, Done, Ran, Refused, given, paired}
 use Rattle.just_bench.specs.declared.script.Script.{Script}
-use Rattle.just_bench.specs.Queue.{left_of, next_or}
+use Rattle.just_bench.specs.Queue.{left_in_queue, next_or}
 use Rattle.just_bench.specs.Script.{unscripted}
 
 -- What it was asked, what it is to answer, and how many calls are answered before one is refused memory, where one is.
@@ -16,7 +16,7 @@ pub record Recording : Type 0 where
   pub script : Script
   pub left : Option ℕ
 
--- calls are counted from 1: how many are answered before this one; none where no call has the number
+-- calls are call_counted from 1: how many are answered before this one; none where no call has the number
 abbrev pub before : ℕ → Option ℕ
 before zero = None
 before (suc n) = Some n
@@ -36,13 +36,13 @@ refuses (Some n) = n == 0
 abbrev pub is_refused : Recording → Bool
 is_refused r = refuses r.left
 
--- a call is counted
+-- a call is call_counted
 abbrev pub less : Option ℕ → Option ℕ
 less None = None
 less (Some n) = before n
 
-abbrev pub counted : Recording → Recording
-counted r = record { entries = r.entries; script = r.script; left = less r.left }
+abbrev pub call_counted : Recording → Recording
+call_counted r = record { entries = r.entries; script = r.script; left = less r.left }
 
 -- code 0, without a signal
 abbrev pub success : RunAnswer
@@ -86,19 +86,19 @@ is_timestamp _ = false
 -- what is left of the script after that call: an answer less of its kind
 abbrev pub after_answer : Script → Entry → Script
 after_answer script entry = record {
-  runs = left_of (is_run entry) script.runs;
-  lines = left_of (is_line entry) script.lines;
-  dotenvs = left_of (is_dotenv entry) script.dotenvs;
-  timestamps = left_of (is_timestamp entry) script.timestamps;
+  runs = left_in_queue (is_run entry) script.runs;
+  lines = left_in_queue (is_line entry) script.lines;
+  dotenvs = left_in_queue (is_dotenv entry) script.dotenvs;
+  timestamps = left_in_queue (is_timestamp entry) script.timestamps;
 }
 
--- a call that was answered: it is counted and kept, and its answer is taken from the script
+-- a call that was answered: it is call_counted and kept, and its answer is taken from the script
 abbrev pub after_call : Entry → Recording → Recording
 after_call entry r = record { entries = r.entries ++ entry ∷ []; script = after_answer r.script entry; left = less r.left }
 
--- What becomes of a call: it was not to be refused, and is answered and kept; or memory is refused, and it is only counted.
+-- What becomes of a call: it was not to be refused, and is answered and kept; or memory is refused, and it is only call_counted.
 abbrev pub IsCalled : Entry → Recording → Option Answer → Recording → Type 0
-IsCalled entry old None new = new ≡ counted old
+IsCalled entry old None new = new ≡ call_counted old
 IsCalled entry old (Some answer) new = (is_refused old ≡ false) × (answer ≡ answer_of old.script entry) × (new ≡ after_call entry old)
 
 -- the usual answer is promised where nothing else is left

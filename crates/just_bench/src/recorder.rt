@@ -2,7 +2,7 @@
 ghost use Rattle.std.specs.Prelude.{◌≡◌, OnErr, OnOk, is_err};
 ghost use Rattle.just_run_layers.specs.declared.host.Entry.{Entry};
 ghost use Rattle.just_run_layers.specs.Host.{answered, done_answer, given, paired, run_answer};
-ghost use Rattle.just_bench.specs.Recorder.{IsCalled, counted, fresh, is_refused, recording, script_promises, success};
+ghost use Rattle.just_bench.specs.Recorder.{IsCalled, call_counted, fresh, is_refused, recording, script_promises, success};
 ghost use Rattle.just_bench.specs.loops.Recorder.{with_entry};
 ghost use Rattle.just_bench.specs.Script.{unscripted};
 
@@ -80,7 +80,7 @@ impl Recorder {
 
     // Counts a call. The error is that this one is refused.
     fn count(&mut self) -> Result<(), AllocError>
-        ensures counted { self.new ≡ counted self.old }
+        ensures call_counted { self.new ≡ call_counted self.old }
         ensures refused { is_refused self.old ≡ is_err result }
     {
         match self.left {

@@ -9,7 +9,8 @@ use Rattle.just_paths.specs.Clean.{IsClean}
 use Rattle.just_table.specs.Entries.{put}
 use Rattle.just_loader.specs.Sources.{Files}
 use Rattle.just_bench_expressions.specs.Lines.{is_newline}
-use Rattle.just_bench_bundle.specs.Bundle.{Text, mark, file_of, line_ends, HasNoMark, AreParts, BundleHolds, HasBadPath, HoldsBundle, IsBeforeLine, IsNoBundle}
+use Rattle.just_bench_bundle.specs.Bundle.{mark, file_of, line_ends, HasNoMark, AreParts, BundleHolds, HasBadPath, HoldsBundle, IsBeforeLine, IsNoBundle}
+use Rattle.just_names.specs.Texts.{Text}
 use Rattle.just_bench_bundle.specs.loops.Bundle.{IsNoFile}
 use Rattle.just_bench_bundle.specs.declared.bundle.BundleError.{BundleError}
 use Rattle.just_bench_bundle.specs.declared.bundle.BundleError.TheVariants as error

@@ -4,7 +4,7 @@ use Rattle.std.specs.List.{Contains}
 use Rattle.std.proofs.lemmas.List.{take_all, take_more}
 use Rattle.std.proofs.lemmas.Result.{IfOk-weaker}
 use Rattle.std.proofs.lemmas.List.Elements.{Contains-push_cases}
-use Rattle.just_bench_bundle.specs.Places.{IsOnLine, StandsIn, StandsOn, edge_line, item_line}
+use Rattle.just_bench_bundle.specs.Places.{IsOnLine, LinkStandsIn, StandsOn, edge_line, item_line}
 use Rattle.just_bench_bundle.specs.loops.Places.{Finds, FindsIn, HasItems}
 use Rattle.just_bench_bundle.specs.loops.Walk.{LeadAmong}
 use Rattle.just_bench_syntax.specs.Answers.{answers}
@@ -60,7 +60,7 @@ module _ (files : Files) (config : Config) (root path : List ℕ) where
   line_bare : (item : Item) → item_line (bare_item item) ≡ item_line item
   line_bare item = ap edge_line (edge_bare item)
 
-  pub none_in : HasItems files root path None → (to : Link) (line : ℕ) → StandsIn w path to line → ⊥
+  pub none_in : HasItems files root path None → (to : Link) (line : ℕ) → LinkStandsIn w path to line → ⊥
   none_in said to line s = let no : None ≡ Some s.one.0 = sym (said config) ∙ s.one.1 in cc
 
   pub leads_nowhere : HasItems files root path None → (next : List ℕ) → FileLeadsTo w path next → ⊥
@@ -78,10 +78,10 @@ module _ (files : Files) (config : Config) (root path : List ℕ) where
     to_bare : (item : Item) → Contains items item → Contains (map bare_item items) (bare_item item)
     to_bare item c = let at = placed items item c in got (map bare_item items) at.0 (bare_item item) (map_get bare_item items at.0 item at.1)
 
-    pub stands_in : (to : Link) (line : ℕ) → StandsOn (Contains items) leads to line → StandsIn w path to line
+    pub stands_in : (to : Link) (line : ℕ) → StandsOn (Contains items) leads to line → LinkStandsIn w path to line
     stands_in to line s = record { item = bare_item s.item; one = (map bare_item items, said config, to_bare s.item s.one); on = (leads_bare s.item ∙ s.on.0, line_bare s.item ∙ s.on.1) }
 
-    stands_on : (to : Link) (line : ℕ) → StandsIn w path to line → StandsOn (Contains items) leads to line
+    stands_on : (to : Link) (line : ℕ) → LinkStandsIn w path to line → StandsOn (Contains items) leads to line
     stands_on to line s =
         let i = from_bare s.one.0 s.item s.one.1 s.one.2 in
         record { item = i.0; one = i.1; on = (sym (leads_bare i.0) ∙ ap leads i.2 ∙ s.on.0, sym (line_bare i.0) ∙ ap item_line i.2 ∙ s.on.1) }

@@ -10,7 +10,7 @@ use Rattle.std.proofs.lemmas.Map.Views.{Contains-keys_from_lookup}
 use Rattle.std.proofs.lemmas.Option.{slice_get_within}
 use Rattle.std.proofs.lemmas.Result.{IfOk-weaker, on_ok_weaker}
 use Rattle.std.proofs.lemmas.Slice.Eq.{bytes_eq-Decides}
-use Rattle.just_bench_bundle.specs.Places.{IsLineOf, StandsIn, TellsLine}
+use Rattle.just_bench_bundle.specs.Places.{IsLineOf, LinkStandsIn, TellsLine}
 use Rattle.just_bench_bundle.specs.loops.Places.{FindsIn, HasItems}
 use Rattle.just_bench_bundle.specs.loops.Walk.{HasAll, IsLeft, LeadAmong, LeavesNone, Walks, found_in}
 use Rattle.just_bench_bundle.specs.declared.places.FileLine.{FileLine}
@@ -84,7 +84,7 @@ pub record WalkedSoFar (w : World) (walk : Walk) (place : ℕ) : Type 0 where
   pub reached : (path : List ℕ) → Contains (found_in walk) path → IsReachedFile w path
   pub all : HasAll w.files walk
   pub root : IsLeft walk w.root → ⊥
-  pub none : (k : ℕ) (path : List ℕ) → k < place → slice_get (found_in walk) k ≡ Some path → IsClean path → (line : ℕ) → StandsIn w path (AtFault NoHome) line → ⊥
+  pub none : (k : ℕ) (path : List ℕ) → k < place → slice_get (found_in walk) k ≡ Some path → IsClean path → (line : ℕ) → LinkStandsIn w path (AtFault NoHome) line → ⊥
   pub led : (k : ℕ) (path : List ℕ) → k < place → slice_get (found_in walk) k ≡ Some path → IsClean path → LeavesNone (FileLeadsTo w path) walk
 
 module _ (w : World) where
@@ -128,7 +128,7 @@ module _ (w : World) where
           none = λ k p h e clean. elim (cases_lt k place) [
             | inl earlier ↦ so.none k p earlier (before k p h e) clean
             | inr later ↦ let same : path ≡ p = last k p (omega (arith, h, later)) e in
-                λ line s. finds (subst IsClean (sym same) clean) line (subst (λ x. StandsIn w x (AtFault NoHome) line) (sym same) s)
+                λ line s. finds (subst IsClean (sym same) clean) line (subst (λ x. LinkStandsIn w x (AtFault NoHome) line) (sym same) s)
           ];
           led = λ k p h e clean. elim (cases_lt k place) [
             | inl earlier ↦ λ next l left. so.led k p earlier (before k p h e) clean next l (walks.fewer next left)
@@ -138,10 +138,10 @@ module _ (w : World) where
         }
 
     -- an item of one that is found wants a home folder
-    pub told : (path : List ℕ) (it : FileLine) → slice_get (found_in walk) place ≡ Some path → it.path ≡ path → StandsIn w path (AtFault NoHome) it.line → IsLineOf w (error.Load load.Homedir) it
+    pub told : (path : List ℕ) (it : FileLine) → slice_get (found_in walk) place ≡ Some path → it.path ≡ path → LinkStandsIn w path (AtFault NoHome) it.line → IsLineOf w (error.Load load.Homedir) it
     told path it at is s = (
       so.reached it.path (subst (Contains (found_in walk)) (sym is) (got (found_in walk) place path at)),
-      subst (λ x. StandsIn w x (AtFault NoHome) it.line) (sym is) s,
+      subst (λ x. LinkStandsIn w x (AtFault NoHome) it.line) (sym is) s,
     )
 
     module _ (past : length (found_in walk) ≤ place) (clean : All IsClean (keys_of w.files)) where

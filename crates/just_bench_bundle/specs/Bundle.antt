@@ -2,15 +2,13 @@
 use Rattle.std.specs.Prelude.{◌≡◌, ◌≢◌, ◌⊎◌, ℕ, ◌+◌, List, [], ◌∷◌, ◌++◌, map}
 use Rattle.std.specs.List.{before_first, after_first, count_by}
 use Rattle.just_paths.specs.Clean.{IsClean}
+use Rattle.just_names.specs.Texts.{Text}
 use Rattle.just_table.specs.Entries.{put}
 use Rattle.just_loader.specs.declared.sources.SourceFile.{SourceFile}
 use Rattle.just_loader.specs.Sources.{Files}
 use Rattle.just_bench_bundle.specs.declared.bundle.BundleError.{BundleError}
 use Rattle.just_bench_bundle.specs.declared.bundle.BundleError.TheVariants as error
 use Rattle.just_bench_expressions.specs.Lines.{is_newline}
-
-abbrev pub Text : Type 0
-Text = List ℕ
 
 -- what stands before the path in a line that begins a file
 abbrev pub mark : Text

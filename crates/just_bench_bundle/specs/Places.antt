@@ -41,14 +41,14 @@ pub record StandsOn (IsOne : Item → Type 0) (leads : Item → Link) (to : Link
   pub on : IsOnLine leads to item line
 
 -- an item of the file at a path does so
-abbrev pub StandsIn : World → Text → Link → ℕ → Type 0
-StandsIn w path = StandsOn (HasItem w path) (link w (folder_of path))
+abbrev pub LinkStandsIn : World → Text → Link → ℕ → Type 0
+LinkStandsIn w path = StandsOn (HasItem w path) (link w (folder_of path))
 
 -- On this line stands what an error tells of: of a circle of files the item of the one that leads to the other, and where no home folder is known an item
 -- that wants one, in a file that is reached.
 abbrev pub IsLineOf : World → Error → FileLine → Type 0
-IsLineOf w (error.Load (load.CircularImport current import)) it = (it.path ≡ current) × StandsIn w current (To import) it.line
-IsLineOf w (error.Load load.Homedir) it = IsReachedFile w it.path × StandsIn w it.path (AtFault NoHome) it.line
+IsLineOf w (error.Load (load.CircularImport current import)) it = (it.path ≡ current) × LinkStandsIn w current (To import) it.line
+IsLineOf w (error.Load load.Homedir) it = IsReachedFile w it.path × LinkStandsIn w it.path (AtFault NoHome) it.line
 IsLineOf w _ it = ⊥
 
 -- the line of an error is told, or there is none, where the paths of the files are clean

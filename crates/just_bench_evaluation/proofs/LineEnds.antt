@@ -18,7 +18,7 @@ use Rattle.just_ast_expressions.specs.declared.expression.Expression.{Expression
 use Rattle.just_bench_evaluation.specs.Lines.{fragment_text, fragments_text}
 use Rattle.just_bench_evaluation.specs.loops.Refusals.{TellsValue}
 use Rattle.just_bench_values.specs.Values.{Outcome}
-use Rattle.just_bench_syntax.specs.Sigils.{back, begun, front, leading, same, sigil_of, text_of}
+use Rattle.just_bench_syntax.specs.Sigils.{back, sigils_begun, front_text, leading, same, sigil_of, text_of_fragment}
 
 -- a text begins plainly with fewer bytes too, and with one more before it
 plain_none : (text : Text) → BeginsPlain 0 text
@@ -60,7 +60,7 @@ sigil_plain byte s h = elim (picked (byte == 64) (byte == 45) (byte == 63) s h) 
 shorter : (p : Sigil → Bool) (ss : List Sigil) → length (before_first p ss) ≤ length ss
 shorter p ss = omega (arith, length-take (position_or_len p ss) ss)
 
-begun_plain : (found : Option Sigil) (after : List Sigil) (byte : ℕ) (text : Text) → sigil_of byte ≡ found → BeginsPlain (length after) text → BeginsPlain (length (begun found after)) (byte ∷ text)
+begun_plain : (found : Option Sigil) (after : List Sigil) (byte : ℕ) (text : Text) → sigil_of byte ≡ found → BeginsPlain (length after) text → BeginsPlain (length (sigils_begun found after)) (byte ∷ text)
 begun_plain None after byte text h b = plain_none (byte ∷ text)
 begun_plain (Some s) after byte text h b =
     let good = sigil_plain byte s h in
@@ -78,7 +78,7 @@ split_parts (Some x) None text h = absurd (cc)
 split_parts (Some x) (Some rest) text h = let e : text ≡ x ++ rest = cc in (x, rest, refl, refl, e)
 
 -- a line's text begins with its sigils
-pub sigils_plain : (value : Expression → Outcome) (parts : List Fragment) (text : Text) → fragments_text value parts ≡ Some text → BeginsPlain (length (leading (front parts))) text
+pub sigils_plain : (value : Expression → Outcome) (parts : List Fragment) (text : Text) → fragments_text value parts ≡ Some text → BeginsPlain (length (leading (front_text parts))) text
 sigils_plain value [] text h = plain_none text
 sigils_plain value (fragment.Interpolation e ∷ parts) text h = plain_none text
 sigils_plain value (fragment.Text token ∷ parts) text h =
@@ -92,14 +92,14 @@ sigils_plain value (fragment.Text token ∷ parts) text h =
 ends : (text : Text) → ends_with nat_eq text (92 ∷ []) ≡ true → EndsWithBackslash text
 ends text h = (_, (ends_is (λ a b. Decides-eqb a b) text (92 ∷ []) (ends_with nat_eq text (92 ∷ [])) refl).0 h)
 
-ends_after : (front text : Text) → EndsWithBackslash text → EndsWithBackslash (front ++ text)
-ends_after front text (before, e) = (front ++ before, ap (λ t. front ++ t) e ∙ sym (append_assoc front before (92 ∷ [])))
+ends_after : (front_text text : Text) → EndsWithBackslash text → EndsWithBackslash (front_text ++ text)
+ends_after front_text text (before, e) = (front_text ++ before, ap (λ t. front_text ++ t) e ∙ sym (append_assoc front_text before (92 ∷ [])))
 
 back_later : (f g : Fragment) (parts : List Fragment) → back (f ∷ g ∷ parts) ≡ back (g ∷ parts)
 back_later f g parts =
     let a : length (f ∷ g ∷ parts) - 1 ≡ suc (length parts) = omega arith in
     let b : length parts ≡ length (g ∷ parts) - 1 = omega arith in
-    ap (λ n. text_of (slice_get (f ∷ g ∷ parts) n)) a ∙ ap (λ n. text_of (slice_get (g ∷ parts) n)) b
+    ap (λ n. text_of_fragment (slice_get (f ∷ g ∷ parts) n)) a ∙ ap (λ n. text_of_fragment (slice_get (g ∷ parts) n)) b
 
 pub backslash_ends : (value : Expression → Outcome) (parts : List Fragment) (text : Text) → fragments_text value parts ≡ Some text → ends_with nat_eq (back parts) (92 ∷ []) ≡ true → EndsWithBackslash text
 backslash_ends value [] text h b = absurd (cc)
@@ -112,7 +112,7 @@ backslash_ends value (f ∷ g ∷ parts) text h b =
     subst EndsWithBackslash (sym cut.4) (ends_after cut.0 cut.1 (backslash_ends value (g ∷ parts) cut.1 cut.3 (ap (λ t. ends_with nat_eq t (92 ∷ [])) (sym (back_later f g parts)) ∙ b)))
 
 -- what is answered for a line
-pub answer_begins : (value : Expression → Outcome) (parts : List Fragment) (C : Type 0) (r : Result Text Refusal) → TellsValue (fragments_text value parts) r → IfOk r (λ text. C → BeginsPlain (length (leading (front parts))) text)
+pub answer_begins : (value : Expression → Outcome) (parts : List Fragment) (C : Type 0) (r : Result Text Refusal) → TellsValue (fragments_text value parts) r → IfOk r (λ text. C → BeginsPlain (length (leading (front_text parts))) text)
 answer_begins value parts C (Ok text) h = λ _. sigils_plain value parts text h
 answer_begins value parts C (Err e) h = tt
 

@@ -1,6 +1,6 @@
 //! What expressions come to in a run.
 ghost use Rattle.just_parts.specs.Told.{IsPlaceIn};
-ghost use Rattle.just_run_layers.specs.Evaluation.{contents_of};
+ghost use Rattle.just_run_layers.specs.Evaluation.{context_contents_of};
 ghost use Rattle.just_bench_values.specs.Lookup.{TellsOutcome, behind};
 ghost use Rattle.just_bench_evaluation.specs.Answered as spec;
 ghost use Rattle.just_bench_evaluation.specs.loops.Refusals.{TellsValue};
@@ -22,7 +22,7 @@ fn evaluate<'a, 'src>(
     builtin: &'a FunctionDefinition<'src>,
     expression: &Expression<'src>,
 ) -> Result<Sequence<Text>, Error<'src>>
-    ensures { let value = spec.value_behind builtin.now (contents_of context.now) scope.now expression.now in
+    ensures { let value = spec.value_behind builtin.now (context_contents_of context.now) scope.now expression.now in
         TellsOutcome value (IsPlaceIn (behind builtin.now context.now.functions.now) expression.now) result }
 {
     let functions = Functions {
@@ -45,7 +45,7 @@ pub fn run_value<'src>(
     is_dependency: bool,
     expression: &Expression<'src>,
 ) -> Result<Sequence<Text>, Refusal>
-    ensures { TellsValue (spec.run_value (contents_of context.now) is_dependency scope.now expression.now) result }
+    ensures { TellsValue (spec.run_value (context_contents_of context.now) is_dependency scope.now expression.now) result }
 {
     let dependency = dependency_function(alloc, is_dependency)?;
     match evaluate(alloc, context, scope, &dependency, expression) {
@@ -62,7 +62,7 @@ pub fn run_text<'src>(
     is_dependency: bool,
     expression: &Expression<'src>,
 ) -> Result<Text, Refusal>
-    ensures { TellsValue (spec.run_text (contents_of context.now) is_dependency scope.now expression.now) result }
+    ensures { TellsValue (spec.run_text (context_contents_of context.now) is_dependency scope.now expression.now) result }
 {
     let value = run_value(alloc, context, scope, is_dependency, expression)?;
     Ok(joined(alloc, value.as_slice())?)

@@ -1,6 +1,6 @@
 //! The texts of lines, and of values as they are shown.
 ghost use Rattle.std.specs.Prelude.{◌≡◌, IfOk, map};
-ghost use Rattle.just_run_layers.specs.Evaluation.{contents_of};
+ghost use Rattle.just_run_layers.specs.Evaluation.{context_contents_of};
 ghost use Rattle.just_bench_evaluation.specs.Answered.{run_value};
 ghost use Rattle.just_bench_evaluation.specs.Lines as spec;
 ghost use Rattle.just_bench_evaluation.specs.loops.Refusals.{TellsValue};
@@ -22,7 +22,7 @@ fn fragment_text<'src>(
     is_dependency: bool,
     fragment: &Fragment<'src>,
 ) -> Result<Text, Refusal>
-    ensures { TellsValue (spec.fragment_text (run_value (contents_of context.now) is_dependency scope.now) fragment.now) result }
+    ensures { TellsValue (spec.fragment_text (run_value (context_contents_of context.now) is_dependency scope.now) fragment.now) result }
 {
     match fragment {
         Fragment::Text { token } => Ok(Text::from_str(alloc, token.lexeme())?),
@@ -44,7 +44,7 @@ pub fn fragments_text<'src>(
     is_dependency: bool,
     fragments: &[Fragment<'src>],
 ) -> Result<Text, Refusal>
-    ensures { TellsValue (spec.fragments_text (run_value (contents_of context.now) is_dependency scope.now) fragments.now) result }
+    ensures { TellsValue (spec.fragments_text (run_value (context_contents_of context.now) is_dependency scope.now) fragments.now) result }
 {
     let mut text = Buffer::new(alloc);
     for fragment in fragments {

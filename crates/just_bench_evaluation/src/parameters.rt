@@ -1,6 +1,6 @@
 //! What the parameters of a recipe come to.
 ghost use Rattle.std.specs.Prelude.{◌≡◌, IfOk, OnOk};
-ghost use Rattle.just_run_layers.specs.Evaluation.{contents_of};
+ghost use Rattle.just_run_layers.specs.Evaluation.{context_contents_of};
 ghost use Rattle.just_bench_evaluation.specs.Answered.{run_parameters, run_value};
 ghost use Rattle.just_bench_evaluation.specs.Parameters as spec;
 ghost use Rattle.just_bench_evaluation.specs.loops.Refusals.{TellsValue};
@@ -38,7 +38,7 @@ fn parameter_value<'src>(
     parameter: &Parameter<'src>,
     group: &Sequence<Text>,
 ) -> Result<Sequence<Text>, Refusal>
-    ensures { TellsValue (spec.parameter_value (run_value (contents_of context.now) is_dependency) scope.now parameter.now group.now) result }
+    ensures { TellsValue (spec.parameter_value (run_value (context_contents_of context.now) is_dependency) scope.now parameter.now group.now) result }
 {
     if !group.is_empty() {
         return Ok(given_value(alloc, parameter, group)?);
@@ -80,7 +80,7 @@ pub fn bind_all<'src>(
     parameters: &[Parameter<'src>],
     groups: &[Sequence<Text>],
 ) -> Result<Held<'src>, Refusal>
-    ensures { TellsValue (run_parameters (contents_of context.now) is_dependency scope.now groups.now parameters.now) result }
+    ensures { TellsValue (run_parameters (context_contents_of context.now) is_dependency scope.now groups.now parameters.now) result }
 {
     let mut bound = Held {
         scope: scope.clone()?,

@@ -4,7 +4,7 @@ ghost use Rattle.just_names.specs.Name.{text_of_name};
 ghost use Rattle.just_ast_expressions.specs.declared.scope.Binding.{Binding};
 ghost use Rattle.just_parts.specs.Evaluator.{Binds};
 ghost use Rattle.just_run_layers.specs.Covering.{HasEvaluationOrder, wanted_in};
-ghost use Rattle.just_run_layers.specs.Evaluation.{contents_of, in_set, set_of};
+ghost use Rattle.just_run_layers.specs.Evaluation.{context_contents_of, in_set, set_of};
 ghost use Rattle.just_bench_values.specs.Constants.{is_asked};
 ghost use Rattle.just_bench_evaluation.specs.Answered as spec;
 ghost use Rattle.just_bench_evaluation.specs.loops.Refusals.{TellsValue};
@@ -36,7 +36,7 @@ pub fn run_scope<'src>(
 ) -> Result<Scope<'src>, Refusal>
     requires order { HasEvaluationOrder context.now }
     ensures binds { IfOk result (Binds context.now.assignments.now (wanted_in context.now (set_of set.entry))) }
-    ensures gives { TellsValue (spec.run_scope (contents_of context.now) (set_of set.entry)) result }
+    ensures gives { TellsValue (spec.run_scope (context_contents_of context.now) (set_of set.entry)) result }
 {
     match constants_of(
         alloc,

@@ -14,7 +14,7 @@ use Rattle.just_bench_expressions.specs.declared.lexer.Kind.TheVariants as kind
 use Rattle.just_bench_expressions.specs.declared.lexer.Lexeme.{Lexeme}
 use Rattle.just_bench_expressions.specs.Apart.{StandApart, nothing, after}
 use Rattle.just_bench_expressions.specs.Lines.{IsLineOf}
-use Rattle.just_bench_expressions.specs.Lexemes.{is_blank, is_quote, quoted, double_mark, single_mark, mark, first, place, before, lexemes_from, lexemes}
+use Rattle.just_bench_expressions.specs.Lexemes.{is_blank, is_quote, quoted, double_mark, single_mark, mark, first, lexeme_place, before, lexemes_from, lexemes}
 use Rattle.just_bench_expressions.proofs.Each.{some_if, drop_next, lexeme_taken}
 
 -- a lexeme at the front is some bytes
@@ -73,7 +73,7 @@ none_dropped (suc n) = refl
 
 module _ (path text : List ℕ) (line : TextLine) (of : IsLineOf text line) (end : ℕ) where
   abbrev token : ℕ → ℕ → Place
-  token = place path text line
+  token = lexeme_place path text line
 
   apart_first : (at b : ℕ) (rest : List ℕ) (f : Option (Kind × ℕ)) → b ∷ rest ≡ drop at (take end line.text) → first (b ∷ rest) ≡ f
       → ((skip : ℕ) → IfSome (lexemes_from token (at + 1) skip rest) (λ ls. StandApart (texts_of ls) (drop skip rest)))

@@ -13,7 +13,7 @@ use Rattle.just_bench_expressions.specs.declared.lexer.Kind.{Kind}
 use Rattle.just_bench_expressions.specs.declared.lexer.Kind.TheVariants as kind
 use Rattle.just_bench_expressions.specs.declared.lexer.Lexeme.{Lexeme}
 use Rattle.just_bench_expressions.specs.Lines.{IsLineOf}
-use Rattle.just_bench_expressions.specs.Lexemes.{is_blank, is_quote, quoted, double_mark, single_mark, mark, first, place, before, lexemes_from, lexemes}
+use Rattle.just_bench_expressions.specs.Lexemes.{is_blank, is_quote, quoted, double_mark, single_mark, mark, first, lexeme_place, before, lexemes_from, lexemes}
 use Rattle.just_bench_expressions.proofs.Lexing.{quote_found}
 
 pub some_if : {A : Type 0} (P : A → Type 0) (c : Bool) (a b : Option A) → IfSome a P → IfSome b P → IfSome (if c then a else b) P
@@ -51,7 +51,7 @@ fits_of : (o : Option (Kind × ℕ)) (k : Kind) (size n : ℕ) → o ≡ Some (k
 fits_of o k size n is fits = rw is at fits
 
 -- the text of a part of a line
-pub part_of_line : (path text : List ℕ) (line : TextLine) (at size : ℕ) → IsLineOf text line → at + size ≤ length line.text → lexeme (place path text line at size) ≡ take size (drop at line.text)
+pub part_of_line : (path text : List ℕ) (line : TextLine) (at size : ℕ) → IsLineOf text line → at + size ≤ length line.text → lexeme (lexeme_place path text line at size) ≡ take size (drop at line.text)
 part_of_line path text line at size of within =
     let o = line.offset in
     let left = length line.text - at in
@@ -79,7 +79,7 @@ part_of_cut at size end bytes within =
 
 -- the text of a lexeme at the front of what is left of a part of a line
 pub lexeme_taken : (path text : List ℕ) (line : TextLine) → IsLineOf text line → (end at b : ℕ) (rest : List ℕ) (k : Kind) (size : ℕ) → b ∷ rest ≡ drop at (take end line.text) → first (b ∷ rest) ≡ Some (k, size)
-    → lexeme (place path text line at size) ≡ take size (b ∷ rest)
+    → lexeme (lexeme_place path text line at size) ≡ take size (b ∷ rest)
 lexeme_taken path text line of end at b rest k size is here =
     let fits : size ≤ length (b ∷ rest) = fits_of (first (b ∷ rest)) k size (length (b ∷ rest)) here (first_fits (b ∷ rest)) in
     let cut : at + size ≤ end = omega (arith, fits, length_left (take end line.text) at b rest is, length-take end line.text) in
@@ -97,12 +97,12 @@ module _ (P : Lexeme → Type 0) where
   each_before token at (Some found) others one all = each_more (record { kind = found.0; token = token at found.1 }) (others (found.1 - 1)) (one found.0 found.1 refl) (all (found.1 - 1))
 
   module _ (path text : List ℕ) (line : TextLine) (of : IsLineOf text line)
-      (one : (bytes : List ℕ) (k : Kind) (size at : ℕ) → first bytes ≡ Some (k, size) → lexeme (place path text line at size) ≡ take size bytes → P (record { kind = k; token = place path text line at size })) where
-    each_from : (end at skip : ℕ) (bytes : List ℕ) → bytes ≡ drop at (take end line.text) → IfSome (lexemes_from (place path text line) at skip bytes) (All P)
+      (one : (bytes : List ℕ) (k : Kind) (size at : ℕ) → first bytes ≡ Some (k, size) → lexeme (lexeme_place path text line at size) ≡ take size bytes → P (record { kind = k; token = lexeme_place path text line at size })) where
+    each_from : (end at skip : ℕ) (bytes : List ℕ) → bytes ≡ drop at (take end line.text) → IfSome (lexemes_from (lexeme_place path text line) at skip bytes) (All P)
     each_from end at skip [] is = All-nil P
     each_from end at (suc skip) (b ∷ rest) is = each_from end (at + 1) skip rest (drop_next (take end line.text) at b rest is)
     each_from end at zero (b ∷ rest) is =
-        let token = place path text line in
+        let token = lexeme_place path text line in
         let more : (skip : ℕ) → IfSome (lexemes_from token (at + 1) skip rest) (All P) = λ skip. each_from end (at + 1) skip rest (drop_next (take end line.text) at b rest is) in
         some_if (All P) (is_blank b) _ _ (more 0)
         (each_before token at (first (b ∷ rest)) (λ skip. lexemes_from token (at + 1) skip rest)

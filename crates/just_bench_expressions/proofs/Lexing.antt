@@ -14,7 +14,7 @@ use Rattle.just_bench_expressions.specs.declared.lexer.Kind.{Kind}
 use Rattle.just_bench_expressions.specs.declared.lexer.Lexeme.{Lexeme}
 use Rattle.just_names.specs.Identifier.{is_identifier_start, is_identifier_continue}
 use Rattle.just_bench_expressions.specs.Lines.{IsLineOf}
-use Rattle.just_bench_expressions.specs.Lexemes.{is_blank, is_quote, first, place, before, lexemes_from, lexemes, TakesLexeme}
+use Rattle.just_bench_expressions.specs.Lexemes.{is_blank, is_quote, first, lexeme_place, before, lexemes_from, lexemes, TakesLexeme}
 
 -- a byte of a line as a byte of the text
 pub byte_of_line : (text : List ℕ) (line : TextLine) (i : ℕ) → IsLineOf text line → i < length line.text → get_or text (line.offset + i) 0 ≡ get_or line.text i 0
@@ -61,7 +61,7 @@ lexemes_skip token at (suc n) (b ∷ rest) h =
 
 -- what was read and what is left make the whole
 pub record Lexed (path text : List ℕ) (line : TextLine) (start end : ℕ) (found : List Lexeme) (at : ℕ) : Type 0 where
-  pub whole : lexemes path text line start end ≡ option_map (λ rest. found ++ rest) (lexemes_from (place path text line) at 0 (drop at (take end line.text)))
+  pub whole : lexemes path text line start end ≡ option_map (λ rest. found ++ rest) (lexemes_from (lexeme_place path text line) at 0 (drop at (take end line.text)))
   pub within : at ≤ length (take end line.text)
 
 pub option_start : {A : Type 0} (o : Option (List A)) → o ≡ option_map (λ rest. [] ++ rest) o
@@ -75,7 +75,7 @@ option_grown front x (Some items) = ap Some (sym (append_assoc front (x ∷ []) 
 pub Lexed-start : (path text : List ℕ) (line : TextLine) (start end : ℕ) (found : List Lexeme) → found ≡ [] → start ≤ end → end ≤ length line.text → Lexed path text line start end found start
 unfolding lexemes
 Lexed-start path text line start end found none ordered within = record {
-  whole = rw none (option_start (lexemes_from (place path text line) start 0 (drop start (take end line.text))));
+  whole = rw none (option_start (lexemes_from (lexeme_place path text line) start 0 (drop start (take end line.text))));
   within = omega (arith, ordered, length-take end line.text, within);
 }
 
@@ -104,10 +104,10 @@ rest_after token bytes at size left takes =
 
 pub Lexed-push : (path text : List ℕ) (line : TextLine) (start end : ℕ) (found : List Lexeme) (at : ℕ) (kind : Kind) (size : ℕ) (found' : List Lexeme) (bytes : List ℕ) → bytes ≡ take end line.text
     → Lexed path text line start end found at → at < length bytes → is_blank (get_or bytes at 0) ≡ false
-    → first (drop at bytes) ≡ Some (kind, size) → TakesLexeme (drop at bytes) size → found' ≡ found ++ record { kind = kind; token = place path text line at size } ∷ []
+    → first (drop at bytes) ≡ Some (kind, size) → TakesLexeme (drop at bytes) size → found' ≡ found ++ record { kind = kind; token = lexeme_place path text line at size } ∷ []
     → Lexed path text line start end found' (at + size)
 Lexed-push path text line start end found at kind size found' bytes cut read left sharp is takes pushed =
-    let token = place path text line in
+    let token = lexeme_place path text line in
     let rest : lexemes_from token (at + 1) (size - 1) (drop (at + 1) bytes) ≡ lexemes_from token (at + size) 0 (drop (at + size) bytes) = rest_after token bytes at size left takes in
     let whole : lexemes path text line start end ≡ option_map (λ rest. found ++ rest) (lexemes_from token at 0 (drop at bytes)) = rw cut read.whole in
     let next : lexemes path text line start end ≡ option_map (λ rest. found' ++ rest) (lexemes_from token (at + size) 0 (drop (at + size) bytes)) =

@@ -27,7 +27,7 @@ use Rattle.just_bench_expressions.specs.Expressions as spec
 use Rattle.just_bench_expressions.specs.Forms.{spelling}
 use Rattle.just_bench_expressions.specs.Lexemes.{HasQuotes, is_quoted}
 use Rattle.just_bench_expressions.specs.Spelling.{is_comma, is_plus, spell}
-use Rattle.just_bench_expressions.specs.Stack.{top}
+use Rattle.just_bench_expressions.specs.Stack.{list_top}
 use Rattle.just_bench_expressions.proofs.Forms.{shape_spelling, IsSpelled, made_spelled, made_spelling, with_commas, listed_last, commas_more, spelling_of-StringLiteral, spelling_of-Variable, spelling_of-Call, spelling_of-Group, spelling_of-List, spelling_of-Concatenation}
 use Rattle.just_bench_expressions.proofs.Leads.{At, Leads, Ends, Begins, leads_start, leads_on, joined_ends, one_ends, mark_leads, after_operand}
 use Rattle.just_bench_expressions.proofs.Plain.{IsPlain, IsTextOf}
@@ -141,8 +141,8 @@ module _ (base : ℕ) where
 
   -- a level that begins
   opened_holds : (all : List Lexeme) (from at : ℕ) (state : State) (b : Bracket) (next : Ready) (inner : ℕ) → Waits all from at state.sum state.start → FillsTop all state.outer state.elements from → Stacked all state.outer
-      → Begins all at → Leads all at inner (opening b) → Now all inner (at + 1) next [] None 0 → Holds all (at + 1) (spec.opened at state b next)
-  unfolding spec.opened
+      → Begins all at → Leads all at inner (opening b) → Now all inner (at + 1) next [] None 0 → Holds all (at + 1) (spec.opened_level at state b next)
+  unfolding spec.opened_level
   opened_holds all from at state b next inner waits fills stacked begins leads now = record {
     from = inner;
     now = now;
@@ -165,7 +165,7 @@ module _ (base : ℕ) where
   paren_is kind.ParenOpen text h is = (refl, refl, is)
   paren_is _ text h is = absurd (false≢true h)
 
-  call_follows : (all : List Lexeme) (at : ℕ) (rest : List Lexeme) → drop at all ≡ rest → spec.calls rest ≡ true → All IsSound all
+  call_follows : (all : List Lexeme) (at : ℕ) (rest : List Lexeme) → drop at all ≡ rest → spec.opens_call rest ≡ true → All IsSound all
       → (l : Lexeme) × At all at l × (is_comma l.kind ≡ false) × (is_plus l.kind ≡ false) × (lexeme l.token ≡ codes "(")
   call_follows all at [] is h sound = absurd (false≢true h)
   call_follows all at (l ∷ rest) is h sound =
@@ -174,15 +174,15 @@ module _ (base : ℕ) where
 
   -- a name that is a variable, or begins a call
   named_holds : (all : List Lexeme) (from at : ℕ) (state : State) (l : Lexeme) (call : Bool) → Waits all from at state.sum state.start → FillsTop all state.outer state.elements from → Stacked all state.outer
-      → At all at l → is_comma l.kind ≡ false → is_plus l.kind ≡ false → All IsSound all → spec.calls (drop (at + 1) all) ≡ call → Holds all (at + 1) (spec.named all at (at + 1) state l call)
+      → At all at l → is_comma l.kind ≡ false → is_plus l.kind ≡ false → All IsSound all → spec.opens_call (drop (at + 1) all) ≡ call → Holds all (at + 1) (spec.named_expression all at (at + 1) state l call)
   named_holds all from at state l false waits fills stacked is no_comma no_plus sound calls =
-      shape_holds all from at (at + 1) state (shape.Variable (spec.name_of l) None) waits fills stacked
-      (one_shaped all at l (shape.Variable (spec.name_of l) None) is no_comma no_plus (spelling_of-Variable (spec.name_of l)) (parts_of-Variable (spec.name_of l) None))
+      shape_holds all from at (at + 1) state (shape.Variable (spec.lexeme_name l) None) waits fills stacked
+      (one_shaped all at l (shape.Variable (spec.lexeme_name l) None) is no_comma no_plus (spelling_of-Variable (spec.lexeme_name l)) (parts_of-Variable (spec.lexeme_name l) None))
   named_holds all from at state l true waits fills stacked is no_comma no_plus sound calls =
       let paren = call_follows all (at + 1) (drop (at + 1) all) refl calls sound in
       let name : Ends all at (at + 1) (lexeme l.token) = one_ends all at at [] l (leads_start all at) is no_comma no_plus in
       let both : Ends all at (at + 1 + 1) (lexeme l.token ++ lexeme paren.0.token) = one_ends all at (at + 1) _ paren.0 (leads_on all at (at + 1) _ name) paren.1 paren.2 paren.3 in
-      opened_holds all from at state (bracket.Call (spec.name_of l)) ready.Calls (at + 1 + 1) waits fills stacked
+      opened_holds all from at state (bracket.Call (spec.lexeme_name l)) ready.Calls (at + 1 + 1) waits fills stacked
       (record { l = l; is = is; other = no_plus })
       (subst (λ t. Leads all at (at + 1 + 1) (lexeme l.token ++ t)) paren.4 (leads_on all at (at + 1 + 1) _ both))
       (refl, refl, refl)
@@ -191,7 +191,7 @@ module _ (base : ℕ) where
   text_of_kind l k is plain = subst (λ (j : Kind). IsTextOf j (lexeme l.token)) is plain
 
   begun_kind : (all : List Lexeme) (from at : ℕ) (state : State) (l : Lexeme) (k : Kind) (call : Bool) → l.kind ≡ k → Waits all from at state.sum state.start → FillsTop all state.outer state.elements from
-      → Stacked all state.outer → At all at l → All IsSound all → IsSound l → spec.calls (drop (at + 1) all) ≡ call → HoldIf all (at + 1) (spec.begun_by k all at (at + 1) state l call)
+      → Stacked all state.outer → At all at l → All IsSound all → IsSound l → spec.opens_call (drop (at + 1) all) ≡ call → HoldIf all (at + 1) (spec.begun_by k all at (at + 1) state l call)
   begun_kind all from at state l kind.Quoted call k waits fills stacked is sound here calls =
       shape_holds all from at (at + 1) state (shape.StringLiteral _) waits fills stacked
       (one_shaped all at l (shape.StringLiteral _) is (ap is_comma k) (ap is_plus k) (spelling_of-StringLiteral _ ∙ quotes_stand_round (lexeme l.token) (here.1 (ap is_quoted k))) (parts_of-StringLiteral _))
@@ -205,8 +205,8 @@ module _ (base : ℕ) where
   begun_kind all from at state l _ call k waits fills stacked is sound here calls = tt
 
   begun_holds : (all : List Lexeme) (from at : ℕ) (state : State) (l : Lexeme) → Waits all from at state.sum state.start → FillsTop all state.outer state.elements from
-      → Stacked all state.outer → At all at l → All IsSound all → IsSound l → HoldIf all (at + 1) (spec.begun all at (at + 1) state l (spec.calls (drop (at + 1) all)))
-  unfolding spec.begun
+      → Stacked all state.outer → At all at l → All IsSound all → IsSound l → HoldIf all (at + 1) (spec.begun_expression all at (at + 1) state l (spec.opens_call (drop (at + 1) all)))
+  unfolding spec.begun_expression
   begun_holds all from at state l waits fills stacked is sound here = begun_kind all from at state l l.kind _ refl waits fills stacked is sound here refl
 
   -- the text with which a bracket ends
@@ -263,7 +263,7 @@ module _ (base : ℕ) where
   form_holds all level outer at end before (Some s) begins some stacked is =
       shape_holds all stacked.0 level.at end (spec.resumed level outer before) s stacked.1 stacked.2 stacked.3 (shaped all level.at end s begins some is.0 is.1)
 
-  closed_unread : (all : List Lexeme) (from at : ℕ) (state : State) (outer : List Level) (l : Lexeme) → spec.ends_in (top outer) l.kind ≡ true → Now all from at ready.Opens state.elements state.sum state.start
+  closed_unread : (all : List Lexeme) (from at : ℕ) (state : State) (outer : List Level) (l : Lexeme) → spec.ends_in (list_top outer) l.kind ≡ true → Now all from at ready.Opens state.elements state.sum state.start
       → FillsTop all outer state.elements from → Stacked all outer → At all at l → IsSound l → HoldIf all (at + 1) (spec.closed_in outer all (at + 1) state)
   closed_unread all from at state [] l h now fills stacked is here = tt
   closed_unread all from at state (level ∷ outer) l h now fills stacked is here =
@@ -276,7 +276,7 @@ module _ (base : ℕ) where
       (subst (λ es. IfSome (spec.shape_of level.bracket es None) (IsFormAt all level.at (at + 1))) (sym now.2) none) in
       form_holds all level outer at (at + 1) state.ready (spec.shape_of level.bracket state.elements state.sum) fills.begins (omega (arith, leads.ordered)) stacked form
 
-  closed_after : (all : List Lexeme) (from at : ℕ) (state : State) (outer : List Level) (sum : Option Expression) (l : Lexeme) → state.sum ≡ sum → spec.ends_in (top outer) l.kind ≡ true → Now all from at ready.Read state.elements sum state.start
+  closed_after : (all : List Lexeme) (from at : ℕ) (state : State) (outer : List Level) (sum : Option Expression) (l : Lexeme) → state.sum ≡ sum → spec.ends_in (list_top outer) l.kind ≡ true → Now all from at ready.Read state.elements sum state.start
       → FillsTop all outer state.elements from → Stacked all outer → At all at l → IsSound l → HoldIf all (at + 1) (spec.closed_in outer all (at + 1) state)
   closed_after all from at state [] sum l is_sum h now fills stacked is here = tt
   closed_after all from at state (level ∷ outer) None l is_sum h now fills stacked is here = absurd now
@@ -298,7 +298,7 @@ module _ (base : ℕ) where
       (λ i. spelling sum ++ after_operand (k i) ++ plus i ++ 32 ∷ []) ∙ append_assoc (spelling sum ++ 32 ∷ []) (43 ∷ []) (32 ∷ []) ∙ append_assoc (spelling sum) (32 ∷ []) (43 ∷ 32 ∷ []) in
       (now.start_is, now.spelled, now.begins, subst (Leads all from (at + 1)) text leads)
 
-  level_goes_on : (all : List Lexeme) (from at : ℕ) (outer : List Level) (elements : List Expression) (sum : Option Expression) (start : ℕ) (l : Lexeme) → l.kind ≡ kind.Comma → spec.has_elements_in (top outer) ≡ true
+  level_goes_on : (all : List Lexeme) (from at : ℕ) (outer : List Level) (elements : List Expression) (sum : Option Expression) (start : ℕ) (l : Lexeme) → l.kind ≡ kind.Comma → spec.has_elements_in (list_top outer) ≡ true
       → Now all from at ready.Read elements sum start → FillsTop all outer elements from → At all at l → IsSound l → FillsTop all outer (spec.and_sum elements sum) (at + 1)
   level_goes_on all from at [] elements sum start l k several now fills is here = absurd (false≢true several)
   level_goes_on all from at (level ∷ outer) elements None start l k several now fills is here = absurd now
@@ -343,20 +343,20 @@ module _ (base : ℕ) where
 
   opens_holds : (all : List Lexeme) (from at : ℕ) (state : State) (l : Lexeme) (ends : Bool) → spec.ends_level state l.kind ≡ ends → Now all from at ready.Opens state.elements state.sum state.start
       → FillsTop all state.outer state.elements from → Stacked all state.outer → At all at l → All IsSound all → IsSound l
-      → HoldIf all (at + 1) (if spec.ends_level state l.kind then spec.closed all (at + 1) state else spec.begun all at (at + 1) state l (spec.calls (drop (at + 1) all)))
+      → HoldIf all (at + 1) (if spec.ends_level state l.kind then spec.closed all (at + 1) state else spec.begun_expression all at (at + 1) state l (spec.opens_call (drop (at + 1) all)))
   unfolding spec.closed
-  opens_holds all from at state l true h now fills stacked is sound here = subst (λ b. HoldIf all (at + 1) (if b then spec.closed_in state.outer all (at + 1) state else spec.begun all at (at + 1) state l (spec.calls (drop (at + 1) all)))) (sym h) (closed_unread all from at state state.outer l h now fills stacked is here)
-  opens_holds all from at state l false h now fills stacked is sound here = subst (λ b. HoldIf all (at + 1) (if b then spec.closed_in state.outer all (at + 1) state else spec.begun all at (at + 1) state l (spec.calls (drop (at + 1) all)))) (sym h) (begun_holds all from at state l (opens_waits all from at state.elements state.sum state.start now) fills stacked is sound here)
+  opens_holds all from at state l true h now fills stacked is sound here = subst (λ b. HoldIf all (at + 1) (if b then spec.closed_in state.outer all (at + 1) state else spec.begun_expression all at (at + 1) state l (spec.opens_call (drop (at + 1) all)))) (sym h) (closed_unread all from at state state.outer l h now fills stacked is here)
+  opens_holds all from at state l false h now fills stacked is sound here = subst (λ b. HoldIf all (at + 1) (if b then spec.closed_in state.outer all (at + 1) state else spec.begun_expression all at (at + 1) state l (spec.opens_call (drop (at + 1) all)))) (sym h) (begun_holds all from at state l (opens_waits all from at state.elements state.sum state.start now) fills stacked is sound here)
 
   step_by_holds : (all : List Lexeme) (from at : ℕ) (state : State) (l : Lexeme) (r : Ready) → Now all from at r state.elements state.sum state.start → FillsTop all state.outer state.elements from → Stacked all state.outer
-      → At all at l → All IsSound all → IsSound l → HoldIf all (at + 1) (spec.step_by r all at (at + 1) state l (spec.calls (drop (at + 1) all)))
+      → At all at l → All IsSound all → IsSound l → HoldIf all (at + 1) (spec.step_by r all at (at + 1) state l (spec.opens_call (drop (at + 1) all)))
   step_by_holds all from at state l ready.Wants now fills stacked is sound here = begun_holds all from at state l now fills stacked is sound here
   step_by_holds all from at state l ready.Opens now fills stacked is sound here = opens_holds all from at state l _ refl now fills stacked is sound here
   step_by_holds all from at state l ready.Calls now fills stacked is sound here = record { from = from; now = now; fills = fills; stacked = stacked }
   step_by_holds all from at state l ready.Read now fills stacked is sound here = followed_holds all from at state l _ refl now fills stacked is here
 
-  step_holds : (all : List Lexeme) (at : ℕ) (state : State) (l : Lexeme) → Holds all at state → At all at l → All IsSound all → IsSound l → HoldIf all (at + 1) (spec.step all at (at + 1) state l (spec.calls (drop (at + 1) all)))
-  unfolding spec.step
+  step_holds : (all : List Lexeme) (at : ℕ) (state : State) (l : Lexeme) → Holds all at state → At all at l → All IsSound all → IsSound l → HoldIf all (at + 1) (spec.read_step all at (at + 1) state l (spec.opens_call (drop (at + 1) all)))
+  unfolding spec.read_step
   step_holds all at state l holds is sound here = step_by_holds all holds.from at state l state.ready holds.now holds.fills holds.stacked is sound here
 
   -- what is found is spelled, and its lexemes are its spelling
@@ -368,7 +368,7 @@ module _ (base : ℕ) where
   found_spelled all from at elements (Some sum) start now is = (now.spelled, ap (λ n. spell (slice_range all n at)) (sym is) ∙ now.ends.spelled)
 
   finished_by : (all : List Lexeme) (from at : ℕ) (r : Ready) (outer : List Level) (elements : List Expression) (sum : Option Expression) (start : ℕ) → Now all from at r elements sum start → FillsTop all outer elements from
-      → IsFoundSpelled all (if spec.is_read r then (if spec.is_outermost (top outer) then spec.found_at at sum else None) else None)
+      → IsFoundSpelled all (if spec.is_read r then (if spec.is_outermost (list_top outer) then spec.found_at at sum else None) else None)
   finished_by all from at ready.Read [] elements sum start now fills = found_spelled all from at elements sum start now fills
   finished_by all from at ready.Read (level ∷ outer) elements sum start now fills = tt
   finished_by all from at ready.Wants outer elements sum start now fills = tt
@@ -390,10 +390,10 @@ module _ (base : ℕ) where
   read_spelled sums all at state [] sound is holds = finished_spelled all at state holds
   read_spelled sums all at state (l ∷ rest) sound is holds =
       let next = next_at all at l rest is in
-      let stepped : HoldIf all (at + 1) (spec.step all at (at + 1) state l (spec.calls rest)) =
-      subst (λ ls. HoldIf all (at + 1) (spec.step all at (at + 1) state l (spec.calls ls))) (sym next) (step_holds all at state l holds (at_front all at l rest is) sound (sound_at all at l rest is sound)) in
-      either_spelled all (spec.stops sums state l.kind) (spec.finished at state) (spec.onward (spec.step all at (at + 1) state l (spec.calls rest)) (λ s. spec.read sums all (at + 1) s rest)) (finished_spelled all at state holds)
-      (onward_spelled all (at + 1) (spec.step all at (at + 1) state l (spec.calls rest)) (λ s. spec.read sums all (at + 1) s rest) stepped (λ s more. read_spelled sums all (at + 1) s rest sound (sym next) more))
+      let stepped : HoldIf all (at + 1) (spec.read_step all at (at + 1) state l (spec.opens_call rest)) =
+      subst (λ ls. HoldIf all (at + 1) (spec.read_step all at (at + 1) state l (spec.opens_call ls))) (sym next) (step_holds all at state l holds (at_front all at l rest is) sound (sound_at all at l rest is sound)) in
+      either_spelled all (spec.stops sums state l.kind) (spec.finished at state) (spec.onward (spec.read_step all at (at + 1) state l (spec.opens_call rest)) (λ s. spec.read sums all (at + 1) s rest)) (finished_spelled all at state holds)
+      (onward_spelled all (at + 1) (spec.read_step all at (at + 1) state l (spec.opens_call rest)) (λ s. spec.read sums all (at + 1) s rest) stepped (λ s more. read_spelled sums all (at + 1) s rest sound (sym next) more))
 
   -- an expression that begins there
   pub expression_spelled : (sums : Bool) (all : List Lexeme) → All IsSound all → IsFoundSpelled all (spec.expression sums all base)

@@ -15,7 +15,7 @@ use Rattle.just_bench_expressions.specs.declared.lexer.Kind.{Kind}
 use Rattle.just_bench_expressions.specs.declared.lexer.Kind.TheVariants as kind
 use Rattle.just_bench_expressions.specs.declared.lexer.Lexeme.{Lexeme}
 use Rattle.just_bench_expressions.specs.Lines.{IsLineOf}
-use Rattle.just_bench_expressions.specs.Lexemes.{is_quote, quoted, double_mark, single_mark, mark, first, place, lexemes_from, lexemes, is_quoted, IsQuoted, HasQuotes, between_quotes}
+use Rattle.just_bench_expressions.specs.Lexemes.{is_quote, quoted, double_mark, single_mark, mark, first, lexeme_place, lexemes_from, lexemes, is_quoted, IsQuoted, HasQuotes, between_quotes}
 use Rattle.just_bench_expressions.proofs.Each.{each_lexeme}
 use Rattle.just_bench_expressions.proofs.Lexing.{Lexed, quote_found}
 
@@ -95,7 +95,7 @@ pub read_quoted : (path text : List ℕ) (line : TextLine) (start end : ℕ) (fo
     → Lexed path text line start end found at → length (take end line.text) ≤ at → All HasQuotes found
 read_quoted path text line start end found at of read none =
     let is : lexemes path text line start end ≡ Some found =
-    read.whole ∙ ap (λ rest. option_map (λ more. found ++ more) (lexemes_from (place path text line) at 0 rest)) (drop_all at (take end line.text) none) ∙ ap Some (append-nil found) in
+    read.whole ∙ ap (λ rest. option_map (λ more. found ++ more) (lexemes_from (lexeme_place path text line) at 0 rest)) (drop_all at (take end line.text) none) ∙ ap Some (append-nil found) in
     subst (λ all. IfSome all (All HasQuotes)) is (sound_lexemes path text line start end of)
 
 -- the text between the quotes is cut at characters

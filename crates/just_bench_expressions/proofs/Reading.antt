@@ -8,8 +8,8 @@ use Rattle.just_bench_expressions.specs.declared.expressions.Found.{Found}
 use Rattle.just_ast_expressions.specs.declared.expression.Expression.{Expression}
 use Rattle.just_bench_expressions.specs.declared.expressions.State.{State}
 use Rattle.just_bench_expressions.specs.declared.lexer.Lexeme.{Lexeme}
-use Rattle.just_bench_expressions.specs.Stack.{top}
-use Rattle.just_bench_expressions.specs.Expressions.{calls, is_read, is_outermost, stops, step, found_at, finished, onward, read, unread, expression}
+use Rattle.just_bench_expressions.specs.Stack.{list_top}
+use Rattle.just_bench_expressions.specs.Expressions.{opens_call, is_read, is_outermost, stops, read_step, found_at, finished, onward, read, unread, expression}
 
 -- what was read and what is left make the whole
 pub record Reading (sums : Bool) (all : List Lexeme) (whole : Option Found) (at : ℕ) (state : State) : Type 0 where
@@ -22,19 +22,19 @@ front all at l within is = drop-cons all at l within ∙ ap (λ m. get_or all at
 -- what is read on, where the lexeme stops the expression or not
 on_by : (sums : Bool) (all : List Lexeme) (whole : Option Found) (at : ℕ) (state : State) (l : Lexeme) (stop : Bool) → Reading sums all whole at state → at < length all → l ≡ get_or all at l
     → stops sums state l.kind ≡ stop
-    → whole ≡ (if stop then finished at state else onward (step all at (at + 1) state l (calls (drop (at + 1) all))) (λ next. read sums all (at + 1) next (drop (at + 1) all)))
+    → whole ≡ (if stop then finished at state else onward (read_step all at (at + 1) state l (opens_call (drop (at + 1) all))) (λ next. read sums all (at + 1) next (drop (at + 1) all)))
 on_by sums all whole at state l stop reading left is on =
     reading.is ∙ ap (read sums all at state) (front all at l left is)
-    ∙ ap (λ b. if b then finished at state else onward (step all at (at + 1) state l (calls (drop (at + 1) all))) (λ next. read sums all (at + 1) next (drop (at + 1) all))) on
+    ∙ ap (λ b. if b then finished at state else onward (read_step all at (at + 1) state l (opens_call (drop (at + 1) all))) (λ next. read sums all (at + 1) next (drop (at + 1) all))) on
 
 pub reading_step : (sums : Bool) (all : List Lexeme) (whole : Option Found) (at : ℕ) (state next : State) (l : Lexeme) → Reading sums all whole at state → at < length all → l ≡ get_or all at l
-    → stops sums state l.kind ≡ false → Some next ≡ step all at (at + 1) state l (calls (drop (at + 1) all)) → Reading sums all whole (at + 1) next
+    → stops sums state l.kind ≡ false → Some next ≡ read_step all at (at + 1) state l (opens_call (drop (at + 1) all)) → Reading sums all whole (at + 1) next
 reading_step sums all whole at state next l reading left is on gone = record {
   is = on_by sums all whole at state l false reading left is on ∙ ap (λ s. onward s (λ next. read sums all (at + 1) next (drop (at + 1) all))) (sym gone);
 }
 
 pub reading_fails : (sums : Bool) (all : List Lexeme) (whole : Option Found) (at : ℕ) (state : State) (l : Lexeme) → Reading sums all whole at state → at < length all → l ≡ get_or all at l
-    → stops sums state l.kind ≡ false → None ≡ step all at (at + 1) state l (calls (drop (at + 1) all)) → None ≡ whole
+    → stops sums state l.kind ≡ false → None ≡ read_step all at (at + 1) state l (opens_call (drop (at + 1) all)) → None ≡ whole
 reading_fails sums all whole at state l reading left is on gone =
     sym (on_by sums all whole at state l false reading left is on ∙ ap (λ s. onward s (λ next. read sums all (at + 1) next (drop (at + 1) all))) (sym gone))
 
@@ -55,7 +55,7 @@ finished_if true false sum at n h = tt
 finished_if false c sum at n h = tt
 
 finished_within : (state : State) (at n : ℕ) → at ≤ n → IfSome (finished at state) (λ f. f.end ≤ n)
-finished_within state at n h = finished_if (is_read state.ready) (is_outermost (top state.outer)) state.sum at n h
+finished_within state at n h = finished_if (is_read state.ready) (is_outermost (list_top state.outer)) state.sum at n h
 
 either_within : (b : Bool) (x y : Option Found) (n : ℕ) → IfSome x (λ f. f.end ≤ n) → IfSome y (λ f. f.end ≤ n) → IfSome (if b then x else y) (λ f. f.end ≤ n)
 either_within true x y n h k = h
@@ -68,9 +68,9 @@ onward_within (Some state) more n h = h state
 read_within : (sums : Bool) (all : List Lexeme) (at : ℕ) (state : State) (rest : List Lexeme) (n : ℕ) → at + length rest ≡ n → IfSome (read sums all at state rest) (λ f. f.end ≤ n)
 read_within sums all at state [] n h = finished_within state at n (omega (arith, h))
 read_within sums all at state (l ∷ rest) n h =
-    either_within (stops sums state l.kind) (finished at state) (onward (step all at (at + 1) state l (calls rest)) (λ next. read sums all (at + 1) next rest)) n
+    either_within (stops sums state l.kind) (finished at state) (onward (read_step all at (at + 1) state l (opens_call rest)) (λ next. read sums all (at + 1) next rest)) n
     (finished_within state at n (omega (arith, h)))
-    (onward_within (step all at (at + 1) state l (calls rest)) (λ next. read sums all (at + 1) next rest) n (λ next. read_within sums all (at + 1) next rest n (omega (arith, h))))
+    (onward_within (read_step all at (at + 1) state l (opens_call rest)) (λ next. read sums all (at + 1) next rest) n (λ next. read_within sums all (at + 1) next rest n (omega (arith, h))))
 
 pub expression_within : (sums : Bool) (all : List Lexeme) (start : ℕ) → IfSome (expression sums all start) (λ f. f.end ≤ length all)
 unfolding expression
@@ -99,7 +99,7 @@ either_from false x y low h k = k
 
 finished_from : (state : State) (at : ℕ) → EndsFrom at (finished at state)
 finished_from state at =
-    either_from (is_read state.ready) _ None at (either_from (is_outermost (top state.outer)) (found_at at state.sum) None at (found_from state.sum at) tt) tt
+    either_from (is_read state.ready) _ None at (either_from (is_outermost (list_top state.outer)) (found_at at state.sum) None at (found_from state.sum at) tt) tt
 
 onward_from : (state : Option State) (more : State → Option Found) (low : ℕ) → ((s : State) → EndsFrom low (more s)) → EndsFrom low (onward state more)
 onward_from None more low h = tt
@@ -112,15 +112,15 @@ weaker_from (Some f) low high h k = omega (arith, h, k)
 read_from : (sums : Bool) (all : List Lexeme) (at : ℕ) (state : State) (rest : List Lexeme) → EndsFrom at (read sums all at state rest)
 read_from sums all at state [] = finished_from state at
 read_from sums all at state (l ∷ rest) =
-    either_from (stops sums state l.kind) (finished at state) (onward (step all at (at + 1) state l (calls rest)) (λ next. read sums all (at + 1) next rest)) at
+    either_from (stops sums state l.kind) (finished at state) (onward (read_step all at (at + 1) state l (opens_call rest)) (λ next. read sums all (at + 1) next rest)) at
     (finished_from state at)
-    (onward_from (step all at (at + 1) state l (calls rest)) (λ next. read sums all (at + 1) next rest) at
+    (onward_from (read_step all at (at + 1) state l (opens_call rest)) (λ next. read sums all (at + 1) next rest) at
     (λ next. weaker_from (read sums all (at + 1) next rest) at (at + 1) (omega arith) (read_from sums all (at + 1) next rest)))
 
 unread_from : (sums : Bool) (all : List Lexeme) (at : ℕ) (rest : List Lexeme) → EndsFrom (at + 1) (read sums all at unread rest)
 unread_from sums all at [] = tt
 unread_from sums all at (l ∷ rest) =
-    onward_from (step all at (at + 1) unread l (calls rest)) (λ next. read sums all (at + 1) next rest) (at + 1) (λ next. read_from sums all (at + 1) next rest)
+    onward_from (read_step all at (at + 1) unread l (opens_call rest)) (λ next. read sums all (at + 1) next rest) (at + 1) (λ next. read_from sums all (at + 1) next rest)
 
 pub expression_from : (sums : Bool) (all : List Lexeme) (start : ℕ) → EndsFrom (start + 1) (expression sums all start)
 unfolding expression

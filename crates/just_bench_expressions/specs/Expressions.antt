@@ -18,7 +18,7 @@ use Rattle.just_bench_expressions.specs.declared.lexer.Kind.TheVariants as kind
 use Rattle.just_bench_expressions.specs.declared.lexer.Lexeme.{Lexeme}
 use Rattle.just_bench_expressions.specs.Lexemes.{between_quotes}
 use Rattle.just_bench_expressions.specs.Spelling.{spell, is_plus}
-use Rattle.just_bench_expressions.specs.Stack.{top}
+use Rattle.just_bench_expressions.specs.Stack.{list_top}
 
 -- `(`
 abbrev pub is_paren_open : Kind → Bool
@@ -36,13 +36,13 @@ is_bracket_close kind.BracketClose = true
 is_bracket_close _ = false
 
 -- a lexeme as a name
-abbrev pub name_of : Lexeme → Name
-name_of l = record { token = l.token }
+abbrev pub lexeme_name : Lexeme → Name
+lexeme_name l = record { token = l.token }
 
 -- `(` is at the front
-abbrev pub calls : List Lexeme → Bool
-calls [] = false
-calls (l ∷ rest) = is_paren_open l.kind
+abbrev pub opens_call : List Lexeme → Bool
+opens_call [] = false
+opens_call (l ∷ rest) = is_paren_open l.kind
 
 -- a lexeme of this kind ends what the bracket begins
 abbrev pub closes : Bracket → Kind → Bool
@@ -62,7 +62,7 @@ ends_in None k = false
 ends_in (Some level) k = closes level.bracket k
 
 abbrev pub ends_level : State → Kind → Bool
-ends_level state k = ends_in (top state.outer) k
+ends_level state k = ends_in (list_top state.outer) k
 
 -- the level may have several elements
 abbrev pub has_elements_in : Option Level → Bool
@@ -70,7 +70,7 @@ has_elements_in None = false
 has_elements_in (Some level) = has_several level.bracket
 
 abbrev pub has_elements : State → Bool
-has_elements state = has_elements_in (top state.outer)
+has_elements state = has_elements_in (list_top state.outer)
 
 -- an operand was read
 abbrev pub is_read : Ready → Bool
@@ -84,7 +84,7 @@ is_outermost (Some level) = false
 
 -- the expression ends before a lexeme of this kind; only one that may be a sum goes on with `+`
 abbrev pub stops : Bool → State → Kind → Bool
-stops sums state k = if is_read state.ready then (if is_outermost (top state.outer) then not (sums && is_plus k) else false) else false
+stops sums state k = if is_read state.ready then (if is_outermost (list_top state.outer) then not (sums && is_plus k) else false) else false
 
 -- a form with the spelling of its lexemes, those from one place to another
 abbrev pub spelled : List Lexeme → ℕ → ℕ → Shape → Expression
@@ -114,8 +114,8 @@ unfoldable pub with_shape : List Lexeme → ℕ → ℕ → State → Shape → 
 with_shape all start end state s = with_operand all start end state (spelled all start end s)
 
 -- in a level that begins
-unfoldable pub opened : ℕ → State → Bracket → Ready → State
-opened at state bracket next = record {
+unfoldable pub opened_level : ℕ → State → Bracket → Ready → State
+opened_level at state bracket next = record {
   outer = record { bracket = bracket; at = at; elements = state.elements; sum = state.sum; start = state.start } ∷ state.outer;
   elements = [];
   sum = None;
@@ -124,19 +124,19 @@ opened at state bracket next = record {
 }
 
 -- after a name from `at` to `end`, which is a variable, or a function where `(` follows
-abbrev pub named : List Lexeme → ℕ → ℕ → State → Lexeme → Bool → State
-named all at end state l call = if call then opened at state (bracket.Call (name_of l)) ready.Calls else with_shape all at end state (shape.Variable (name_of l) None)
+abbrev pub named_expression : List Lexeme → ℕ → ℕ → State → Lexeme → Bool → State
+named_expression all at end state l call = if call then opened_level at state (bracket.Call (lexeme_name l)) ready.Calls else with_shape all at end state (shape.Variable (lexeme_name l) None)
 
 -- after a lexeme from `at` to `end` that stands where an operand must; a name before `(` begins a call
 abbrev pub begun_by : Kind → List Lexeme → ℕ → ℕ → State → Lexeme → Bool → Option State
 begun_by kind.Quoted all at end state l call = Some (with_shape all at end state (shape.StringLiteral (between_quotes (lexeme l.token))))
-begun_by kind.Name all at end state l call = Some (named all at end state l call)
-begun_by kind.ParenOpen all at end state l call = Some (opened at state bracket.Group ready.Wants)
-begun_by kind.BracketOpen all at end state l call = Some (opened at state bracket.List ready.Opens)
+begun_by kind.Name all at end state l call = Some (named_expression all at end state l call)
+begun_by kind.ParenOpen all at end state l call = Some (opened_level at state bracket.Group ready.Wants)
+begun_by kind.BracketOpen all at end state l call = Some (opened_level at state bracket.List ready.Opens)
 begun_by _ all at end state l call = None
 
-unfoldable pub begun : List Lexeme → ℕ → ℕ → State → Lexeme → Bool → Option State
-begun all at end state l call = begun_by l.kind all at end state l call
+unfoldable pub begun_expression : List Lexeme → ℕ → ℕ → State → Lexeme → Bool → Option State
+begun_expression all at end state l call = begun_by l.kind all at end state l call
 
 -- the elements of a level, of which the last is a sum
 abbrev pub and_sum : List Expression → Option Expression → List Expression
@@ -144,13 +144,13 @@ and_sum elements None = elements
 and_sum elements (Some sum) = elements ++ sum ∷ []
 
 -- the one expression of a group
-abbrev pub group_of : Option Expression → Option Shape
-group_of None = None
-group_of (Some sum) = Some (shape.Group sum)
+abbrev pub group_shape : Option Expression → Option Shape
+group_shape None = None
+group_shape (Some sum) = Some (shape.Group sum)
 
 -- the form of a bracket and what stands in it
 abbrev pub shape_of : Bracket → List Expression → Option Expression → Option Shape
-shape_of bracket.Group elements sum = group_of sum
+shape_of bracket.Group elements sum = group_shape sum
 shape_of bracket.List elements sum = Some (shape.List (and_sum elements sum))
 shape_of (bracket.Call name) elements sum = Some (shape.Call name (and_sum elements sum))
 
@@ -182,13 +182,13 @@ followed all end state k = if ends_level state k then closed all end state else 
 
 -- after a lexeme from `at` to `end`, before which this may stand
 abbrev pub step_by : Ready → List Lexeme → ℕ → ℕ → State → Lexeme → Bool → Option State
-step_by ready.Wants all at end state l call = begun all at end state l call
-step_by ready.Opens all at end state l call = if ends_level state l.kind then closed all end state else begun all at end state l call
+step_by ready.Wants all at end state l call = begun_expression all at end state l call
+step_by ready.Opens all at end state l call = if ends_level state l.kind then closed all end state else begun_expression all at end state l call
 step_by ready.Calls all at end state l call = Some (record { outer = state.outer; elements = state.elements; sum = state.sum; start = state.start; ready = ready.Opens })
 step_by ready.Read all at end state l call = followed all end state l.kind
 
-unfoldable pub step : List Lexeme → ℕ → ℕ → State → Lexeme → Bool → Option State
-step all at end state l call = step_by state.ready all at end state l call
+unfoldable pub read_step : List Lexeme → ℕ → ℕ → State → Lexeme → Bool → Option State
+read_step all at end state l call = step_by state.ready all at end state l call
 
 -- the sum of the outermost level, which ends here
 abbrev pub found_at : ℕ → Option Expression → Option Found
@@ -197,7 +197,7 @@ found_at at (Some sum) = Some (record { made = sum; end = at })
 
 -- what was read up to a place, if it is a whole expression
 abbrev pub finished : ℕ → State → Option Found
-finished at state = if is_read state.ready then (if is_outermost (top state.outer) then found_at at state.sum else None) else None
+finished at state = if is_read state.ready then (if is_outermost (list_top state.outer) then found_at at state.sum else None) else None
 
 -- what is read on after a state, if there is one
 abbrev pub onward : Option State → (State → Option Found) → Option Found
@@ -209,7 +209,7 @@ abbrev pub read : Bool → List Lexeme → ℕ → State → List Lexeme → Opt
 read sums all at state [] = finished at state
 read sums all at state (l ∷ rest) =
     if stops sums state l.kind then finished at state
-    else onward (step all at (at + 1) state l (calls rest)) (λ next. read sums all (at + 1) next rest)
+    else onward (read_step all at (at + 1) state l (opens_call rest)) (λ next. read sums all (at + 1) next rest)
 
 -- for the private functions: a state that was changed, if the lexeme may stand there
 abbrev pub told : Bool → State → Option State
@@ -227,11 +227,11 @@ end_onward at None more = Err at
 end_onward at (Some state) more = more state
 
 -- where it ends that is read on through the lexemes from a place on, or where reading stops: at the first lexeme that it does not go on with, or at the end
-abbrev pub end_from : Bool → List Lexeme → ℕ → State → List Lexeme → Result ℕ ℕ
-end_from sums all at state [] = end_at at (finished at state)
-end_from sums all at state (l ∷ rest) =
+abbrev pub read_end : Bool → List Lexeme → ℕ → State → List Lexeme → Result ℕ ℕ
+read_end sums all at state [] = end_at at (finished at state)
+read_end sums all at state (l ∷ rest) =
     if stops sums state l.kind then end_at at (finished at state)
-    else end_onward at (step all at (at + 1) state l (calls rest)) (λ next. end_from sums all (at + 1) next rest)
+    else end_onward at (read_step all at (at + 1) state l (opens_call rest)) (λ next. read_end sums all (at + 1) next rest)
 
 -- an end is where an expression ends, and there is none where there is no expression
 abbrev pub EndsWith : Option Found → Result ℕ ℕ → Type 0
@@ -241,9 +241,9 @@ EndsWith None (Ok end) = ⊥
 EndsWith None (Err at) = Unit {0}
 
 -- for the private functions: what was read up to a place, where no lexeme was out of place
-abbrev pub reached : Result ℕ ℕ → State → Option Found
-reached (Err at) state = None
-reached (Ok at) state = finished at state
+abbrev pub read_up_to : Result ℕ ℕ → State → Option Found
+read_up_to (Err at) state = None
+read_up_to (Ok at) state = finished at state
 
 -- for the private functions: where that ends
 abbrev pub ended : Result ℕ ℕ → State → Result ℕ ℕ
@@ -260,4 +260,4 @@ expression sums all at = read sums all at unread (drop at all)
 
 -- where the expression ends that begins at a place, or where reading it stops
 unfoldable pub expression_end : Bool → List Lexeme → ℕ → Result ℕ ℕ
-expression_end sums all at = end_from sums all at unread (drop at all)
+expression_end sums all at = read_end sums all at unread (drop at all)

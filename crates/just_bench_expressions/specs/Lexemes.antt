@@ -70,8 +70,8 @@ pub record TakesLexeme (bytes : List ℕ) (size : ℕ) : Type 0 where
   pub ends : slice_index bytes (size - 1) < 128
 
 -- a part of a line as a part of the text
-abbrev pub place : List ℕ → List ℕ → TextLine → ℕ → ℕ → Place
-place path text line at size = record { line = line.number; column = at; offset = line.offset + at; length = size; path = path; src = text }
+abbrev pub lexeme_place : List ℕ → List ℕ → TextLine → ℕ → ℕ → Place
+lexeme_place path text line at size = record { line = line.number; column = at; offset = line.offset + at; length = size; path = path; src = text }
 
 -- a lexeme before those that follow
 abbrev pub before : (ℕ → ℕ → Place) → ℕ → Option (Kind × ℕ) → (ℕ → Option (List Lexeme)) → Option (List Lexeme)
@@ -88,7 +88,7 @@ lexemes_from token at zero (b ∷ rest) =
 
 -- the lexemes of a line from one column to another, none where a part of it is no lexeme
 unfoldable pub lexemes : List ℕ → List ℕ → TextLine → ℕ → ℕ → Option (List Lexeme)
-lexemes path text line start end = lexemes_from (place path text line) start 0 (drop start (take end line.text))
+lexemes path text line start end = lexemes_from (lexeme_place path text line) start 0 (drop start (take end line.text))
 
 -- how many bytes lexemes take, and blanks and tabs between them, where so many bytes at the front belong to the lexeme before
 abbrev pub past : Option (Kind × ℕ) → (ℕ → ℕ) → ℕ

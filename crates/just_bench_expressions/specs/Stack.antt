@@ -2,6 +2,6 @@
 use Rattle.std.specs.Prelude.{List, [], ◌∷◌, Option, None, Some}
 
 -- the first of a list, if there is one
-abbrev pub top : {A : Type 0} → List A → Option A
-top [] = None
-top (x ∷ rest) = Some x
+abbrev pub list_top : {A : Type 0} → List A → Option A
+list_top [] = None
+list_top (x ∷ rest) = Some x

@@ -78,7 +78,7 @@ pub struct Found<'src> {
 
 // Whether a `(` stands there.
 fn begins_call<'src>(lexemes: &[Lexeme<'src>], at: usize) -> bool
-    ensures { result ≡ spec.calls (drop at lexemes.now) }
+    ensures { result ≡ spec.opens_call (drop at lexemes.now) }
 {
     match lexemes.get(at) {
         Some(lexeme) => matches!(lexeme.kind, Kind::ParenOpen),
@@ -205,7 +205,7 @@ fn add_shape<'src>(
 }
 
 // Begins a level.
-#[tactic(auto, unfolding(crate::specs::Expressions::opened))]
+#[tactic(auto, unfolding(crate::specs::Expressions::opened_level))]
 fn open<'src>(
     spelling: &Spelling<'src>,
     at: usize,
@@ -213,7 +213,7 @@ fn open<'src>(
     bracket: Bracket<'src>,
     ready: Ready,
 ) -> Result<(), AllocError>
-    ensures { OnOk result (state.new ≡ spec.opened at state.old bracket.entry ready) }
+    ensures { OnOk result (state.new ≡ spec.opened_level at state.old bracket.entry ready) }
 {
     let elements = replace(&mut state.elements, Sequence::new(spelling.alloc()));
     let sum = state.sum.take();
@@ -248,7 +248,7 @@ fn begin_name<'src>(
     calls: bool,
 ) -> Result<(), AllocError>
     requires { end ≤ length spelling.now }
-    ensures { OnOk result (state.new ≡ spec.named spelling.now at end state.old lexeme.now calls) }
+    ensures { OnOk result (state.new ≡ spec.named_expression spelling.now at end state.old lexeme.now calls) }
 {
     let name = Name {
         token: lexeme.token.copied(),
@@ -261,7 +261,7 @@ fn begin_name<'src>(
 }
 
 // Takes a lexeme that stands where an operand must, or answers that none begins with it.
-#[tactic(auto, unfolding(crate::specs::Expressions::begun))]
+#[tactic(auto, unfolding(crate::specs::Expressions::begun_expression))]
 fn begin<'src>(
     spelling: &Spelling<'src>,
     at: usize,
@@ -272,7 +272,7 @@ fn begin<'src>(
 ) -> Result<bool, AllocError>
     requires within { end ≤ length spelling.now }
     requires quoted { HasQuotes lexeme.now }
-    ensures { IfOk result (λ fits. spec.told fits state.new ≡ spec.begun spelling.now at end state.old lexeme.now calls) }
+    ensures { IfOk result (λ fits. spec.told fits state.new ≡ spec.begun_expression spelling.now at end state.old lexeme.now calls) }
 {
     match lexeme.kind {
         Kind::Quoted => {
@@ -404,7 +404,7 @@ fn follow<'src>(
 }
 
 // Takes a lexeme, or answers that it may not stand there.
-#[tactic(auto, unfolding(crate::specs::Expressions::step))]
+#[tactic(auto, unfolding(crate::specs::Expressions::read_step))]
 fn step<'src>(
     spelling: &Spelling<'src>,
     at: usize,
@@ -415,7 +415,7 @@ fn step<'src>(
 ) -> Result<bool, AllocError>
     requires within { end ≤ length spelling.now }
     requires quoted { HasQuotes lexeme.now }
-    ensures { IfOk result (λ fits. spec.told fits state.new ≡ spec.step spelling.now at end state.old lexeme.now calls) }
+    ensures { IfOk result (λ fits. spec.told fits state.new ≡ spec.read_step spelling.now at end state.old lexeme.now calls) }
 {
     match state.ready {
         Ready::Wants => begin(spelling, at, end, state, lexeme, calls),
@@ -455,8 +455,8 @@ fn advance<'src>(
     sums: bool,
     state: &mut State<'src>,
 ) -> Result<Result<usize, usize>, AllocError>
-    ensures is { IfOk result (λ end. spec.reached end state.new ≡ spec.read sums spelling.now start state.old (drop start spelling.now)) }
-    ensures end { IfOk result (λ end. spec.ended end state.new ≡ spec.end_from sums spelling.now start state.old (drop start spelling.now)) }
+    ensures is { IfOk result (λ end. spec.read_up_to end state.new ≡ spec.read sums spelling.now start state.old (drop start spelling.now)) }
+    ensures end { IfOk result (λ end. spec.ended end state.new ≡ spec.read_end sums spelling.now start state.old (drop start spelling.now)) }
 {
     let lexemes = spelling.as_slice();
     let mut at = start;

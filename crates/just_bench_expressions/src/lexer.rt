@@ -153,7 +153,7 @@ fn token<'src>(
     requires within { at + size ≤ length line.now.text }
     requires first { slice_index line.now.text at < 128 }
     requires last { slice_index line.now.text (at + size - 1) < 128 }
-    ensures { result ≡ spec.place path.now text.now line.now at size }
+    ensures { result ≡ spec.lexeme_place path.now text.now line.now at size }
 {
     Token::new(
         line.number,

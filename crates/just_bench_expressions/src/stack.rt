@@ -1,7 +1,7 @@
 //! Values of which the last that was put is taken first.
 ghost use Rattle.std.specs.Prelude.{◌≡◌, [], ◌∷◌, MatchOption, OnOk};
 ghost use Rattle.std.specs.Option.{option_copied};
-ghost use Rattle.just_bench_expressions.specs.Stack.{top};
+ghost use Rattle.just_bench_expressions.specs.Stack.{list_top};
 
 use std::alloc::{AllocError, Global};
 use std::marker::Model;
@@ -50,7 +50,7 @@ impl<T: Drop> Stack<T> {
 
     /// The next value.
     pub fn top(&self) -> Option<&T>
-        ensures { option_copied result ≡ top self.now }
+        ensures { option_copied result ≡ list_top self.now }
     {
         self.items.last()
     }

@@ -32,15 +32,15 @@ use Rattle.just_bench_lines.specs.declared.meaning.Declaration.{Declaration}
 use Rattle.just_bench_lines.specs.declared.meaning.Meaning.TheVariants as meanings
 use Rattle.just_bench_lines.specs.declared.meaning.Statement.{Statement}
 use Rattle.just_bench_lines.specs.declared.meaning.Statement.TheVariants as statements
-use Rattle.just_bench_lines.specs.Alias.{alias_by, alias_line, with_target}
+use Rattle.just_bench_lines.specs.Alias.{alias_in_line, alias_line, with_target}
 use Rattle.just_bench_lines.specs.Attributes.{attribute, attribute_of}
 use Rattle.just_bench_lines.specs.Definitions as definitions
 use Rattle.just_bench_lines.specs.Heading as heading
 use Rattle.just_bench_lines.specs.Meaning as meaning
-use Rattle.just_bench_lines.specs.Parts.{parts, parts_from}
+use Rattle.just_bench_lines.specs.Parts.{read_parts, parts_from}
 use Rattle.just_bench_lines.specs.Path.{path}
-use Rattle.just_bench_lines.specs.Places.{is_assign, is_at_sign, is_bracket_open, is_colon, is_equals, is_name, is_paren_open, is_plus, is_question, is_quoted, is_star}
-use Rattle.just_bench_lines.specs.Places.{adjoins, is_word, literal, literal_at, name_at, name_there, quoted_at, quoted_there, stands, stands_there, word_at}
+use Rattle.just_bench_lines.specs.Places.{is_assign, is_at_sign, is_bracket_open, is_colon, is_equals, is_name_kind, is_paren_open, is_plus, is_question, is_quoted, is_star}
+use Rattle.just_bench_lines.specs.Places.{adjoins, is_word, literal, literal_at, read_name_at, name_there, quoted_at, quoted_there, stands, stands_there, word_at}
 use Rattle.just_bench_lines.proofs.Fronts.{Front, front}
 
 -- the kinds of lines
@@ -113,7 +113,7 @@ named_sort all = by_second (kind_of (slice_get all 1)) (kind_of (slice_get all 2
 abbrev sort : List Lexeme → Sort
 sort all = by_first (kind_of (slice_get all 0)) (named_sort all)
 
-name_is : (k : Kind) → is_name k ≡ true → k ≡ kind.Name
+name_is : (k : Kind) → is_name_kind k ≡ true → k ≡ kind.Name
 name_is kind.Name h = refl
 name_is _ h = absurd (false≢true h)
 
@@ -145,7 +145,7 @@ at_sign_is : (k : Kind) → is_at_sign k ≡ true → k ≡ kind.At
 at_sign_is kind.At h = refl
 at_sign_is _ h = absurd (false≢true h)
 
-no_start : (k : Kind) → starts k ≡ false → (is_colon k ≡ false) × (is_star k ≡ false) × (is_plus k ≡ false) × (is_name k ≡ false)
+no_start : (k : Kind) → starts k ≡ false → (is_colon k ≡ false) × (is_star k ≡ false) × (is_plus k ≡ false) × (is_name_kind k ≡ false)
 no_start kind.Name h = absurd (false≢true (sym h))
 no_start kind.Colon h = absurd (false≢true (sym h))
 no_start kind.Star h = absurd (false≢true (sym h))
@@ -162,7 +162,7 @@ mapped f None y h = absurd (none-some y h)
 mapped f (Some x) y h = (x, refl)
 
 -- one of two is there
-one_of : {A : Type 0} (o other : Option A) (x : A) → meaning.or_else o other ≡ Some x → (o ≡ Some x) ⊎ (other ≡ Some x)
+one_of : {A : Type 0} (o other : Option A) (x : A) → meaning.first_there o other ≡ Some x → (o ≡ Some x) ⊎ (other ≡ Some x)
 one_of None other x h = inr h
 one_of (Some it) other x h = inl h
 
@@ -187,7 +187,7 @@ standing is k one (Some l) h = ap (λ c. Some c) (one l.kind h)
 named : (o : Option Lexeme) (name : Name) → name_there o ≡ Some name → (kind_of o ≡ Some kind.Name) × (text_of o ≡ lexeme name.token)
 named None name h = absurd (none-some name h)
 named (Some l) name h =
-    let c = chosen (is_name l.kind) (Some (record { token = l.token })) name h in
+    let c = chosen (is_name_kind l.kind) (Some (record { token = l.token })) name h in
     (ap (λ k. Some k) (name_is l.kind c.0), ap text_if_named c.1)
 
 quoted : (o : Option Lexeme) (place : Place) → quoted_there o ≡ Some place → kind_of o ≡ Some kind.Quoted
@@ -244,13 +244,13 @@ module _ (second third : Option Kind) (w : List ℕ) where
   by_name b h g = rw (h, g) refl
 
 -- the line is told by its first word
-by_text : (all : List Lexeme) (w : List ℕ) → is_word w (name_at all 0) ≡ true → named_sort all ≡ by_word (text_of (slice_get all 0)) → sort all ≡ by_word w
+by_text : (all : List Lexeme) (w : List ℕ) → is_word w (read_name_at all 0) ≡ true → named_sort all ≡ by_word (text_of (slice_get all 0)) → sort all ≡ by_word w
 by_text all w h second =
-    let first = worded w (slice_get all 0) (name_at all 0) refl h in
+    let first = worded w (slice_get all 0) (read_name_at all 0) refl h in
     ap (λ k. by_first k (named_sort all)) first.0 ∙ second ∙ ap by_word first.1
 
 -- or by what stands after it
-by_rest : (all : List Lexeme) (name : Name) (s : Sort) → name_at all 0 ≡ Some name → named_sort all ≡ s → sort all ≡ s
+by_rest : (all : List Lexeme) (name : Name) (s : Sort) → read_name_at all 0 ≡ Some name → named_sort all ≡ s → sort all ≡ s
 by_rest all name s h second = ap (λ k. by_first k (named_sort all)) (named (slice_get all 0) name h).0 ∙ second
 
 module _ (all : List Lexeme) where
@@ -283,13 +283,13 @@ module _ (all : List Lexeme) where
   module_third None is h = ap goes_on (ended all 2 h)
   module_third (Some path) is h = ap goes_on (literal_is (slice_get all 2) (quoted_at all 2) path refl (sym is))
 
-  module_end : (name : Name) (optional : Bool) (d : Declaration) → meaning.module_of all name optional 2 ≡ Some d → goes_on third ≡ false
-  unfolding meaning.module_of
+  module_end : (name : Name) (optional : Bool) (d : Declaration) → meaning.declared_module all name optional 2 ≡ Some d → goes_on third ≡ false
+  unfolding meaning.declared_module
   module_end name optional d h =
       module_third (literal_at all 2) refl (chosen (meaning.after_path 2 (literal_at all 2) == length all) (Some (record { name = name; path = literal_at all 2; optional = optional })) d h).0
 
-  module_second : (b : Bool) (name : Option Name) (d : Declaration) → meaning.is_optional all ≡ b → name ≡ name_at all (meaning.after_word b)
-      → meaning.module_by all b (meaning.after_word b) name ≡ Some d → named_sort all ≡ by_word word
+  module_second : (b : Bool) (name : Option Name) (d : Declaration) → meaning.is_optional all ≡ b → name ≡ read_name_at all (meaning.after_word b)
+      → meaning.module_in_line all b (meaning.after_word b) name ≡ Some d → named_sort all ≡ by_word word
   module_second b None d optional is h = absurd (none-some d h)
   module_second true (Some name) d optional is h = by_question second third word (optional_is all optional)
   module_second false (Some name) d optional is h = by_name second third word false (named (slice_get all 1) name (sym is)).0 (module_end name false d h)
@@ -297,17 +297,17 @@ module _ (all : List Lexeme) where
   pub module_sort : (d : Declaration) → meaning.module_line all ≡ Some d → sort all ≡ a_module
   module_sort d h =
       let optional = meaning.is_optional all in
-      let name = name_at all (meaning.after_word optional) in
-      let c = chosen (word_at (codes "mod") all 0) (meaning.module_by all optional (meaning.after_word optional) name) d h in
+      let name = read_name_at all (meaning.after_word optional) in
+      let c = chosen (word_at (codes "mod") all 0) (meaning.module_in_line all optional (meaning.after_word optional) name) d h in
       by_text all (codes "mod") c.0 (module_second optional name d refl refl c.1)
 
   pub mark_sort : (m : Mark) → attribute all ≡ Some m → sort all ≡ a_mark
   unfolding attribute
   mark_sort m h =
-      let c = chosen (stands is_bracket_open all 0) (attribute_of all (name_at all 1)) m h in
+      let c = chosen (stands is_bracket_open all 0) (attribute_of all (read_name_at all 1)) m h in
       ap (λ k. by_first k (named_sort all)) (standing is_bracket_open kind.BracketOpen bracket_is (slice_get all 0) c.0)
 
-  alias_second : (name : Option Name) (a : AliasLine) → name ≡ name_at all 1 → alias_by all name ≡ Some a → named_sort all ≡ by_word word
+  alias_second : (name : Option Name) (a : AliasLine) → name ≡ read_name_at all 1 → alias_in_line all name ≡ Some a → named_sort all ≡ by_word word
   alias_second None a is h = absurd (none-some a h)
   alias_second (Some name) a is h =
       let c = chosen (stands is_assign all 2) (with_target all name (path all 3)) a h in
@@ -315,8 +315,8 @@ module _ (all : List Lexeme) where
 
   pub alias_sort : (a : AliasLine) → alias_line all ≡ Some a → sort all ≡ an_alias
   alias_sort a h =
-      let c = chosen (word_at (codes "alias") all 0) (alias_by all (name_at all 1)) a h in
-      by_text all (codes "alias") c.0 (alias_second (name_at all 1) a refl c.1)
+      let c = chosen (word_at (codes "alias") all 0) (alias_in_line all (read_name_at all 1)) a h in
+      by_text all (codes "alias") c.0 (alias_second (read_name_at all 1) a refl c.1)
 
   set_third : (b c d : Bool) (t : Option Bool) (value : Bool) → (length all == 2) ≡ b → stands is_assign all 2 ≡ d
       → (if b then Some true else (if c then (if d then t else None) else None)) ≡ Some value → goes_on third ≡ false
@@ -346,34 +346,34 @@ module _ (all : List Lexeme) where
       let text = lexeme name.token in
       setting_third (bytes_eq text (codes "shell")) (bytes_eq text (codes "script-interpreter")) text value (sym is)
 
-  set_second : (name : Option Name) (s : Set) → name ≡ name_at all 1 → definitions.set_by all name ≡ Some s → named_sort all ≡ by_word word
+  set_second : (name : Option Name) (s : Set) → name ≡ read_name_at all 1 → definitions.set_in_line all name ≡ Some s → named_sort all ≡ by_word word
   set_second None s is h = absurd (none-some s h)
   set_second (Some name) s is h = by_name second third word false (named (slice_get all 1) name (sym is)).0 (set_value (definitions.setting_by all (lexeme name.token)) name s refl h)
 
   pub set_sort : (s : Set) → definitions.set all ≡ Some s → sort all ≡ a_setting
   set_sort s h =
-      let c = chosen (word_at (codes "set") all 0) (definitions.set_by all (name_at all 1)) s h in
-      by_text all (codes "set") c.0 (set_second (name_at all 1) s refl c.1)
+      let c = chosen (word_at (codes "set") all 0) (definitions.set_in_line all (read_name_at all 1)) s h in
+      by_text all (codes "set") c.0 (set_second (read_name_at all 1) s refl c.1)
 
   pub unexport_sort : (name : Name) → definitions.unexport all ≡ Some name → sort all ≡ an_unexport
   unexport_sort name h =
-      let c = chosen (length all == 2) (if word_at (codes "unexport") all 0 then name_at all 1 else None) name h in
-      let d = chosen (word_at (codes "unexport") all 0) (name_at all 1) name c.1 in
+      let c = chosen (length all == 2) (if word_at (codes "unexport") all 0 then read_name_at all 1 else None) name h in
+      let d = chosen (word_at (codes "unexport") all 0) (read_name_at all 1) name c.1 in
       by_text all (codes "unexport") d.0 (by_name second third word false (named (slice_get all 1) name d.1).0 (ap goes_on (two_long c.0)))
 
   -- a variable whose name stands at a place
-  assigned : (at : ℕ) (eager export : Bool) (name : Option Name) (a : Assignment) → definitions.assignment_by all at eager export name ≡ Some a
+  assigned : (at : ℕ) (eager export : Bool) (name : Option Name) (a : Assignment) → definitions.assignment_in_line all at eager export name ≡ Some a
       → (n : Name) × (name ≡ Some n) × (stands is_assign all (at + 1) ≡ true)
   assigned at eager export None a h = absurd (none-some a h)
   assigned at eager export (Some name) a h = (name, refl, (chosen (stands is_assign all (at + 1)) (definitions.assigned name eager export (definitions.whole_expression all (at + 2))) a h).0)
 
   assigned_at : (at : ℕ) (eager export : Bool) (a : Assignment) → definitions.assignment_at all at eager export ≡ Some a
-      → (n : Name) × (name_at all at ≡ Some n) × (stands is_assign all (at + 1) ≡ true)
+      → (n : Name) × (read_name_at all at ≡ Some n) × (stands is_assign all (at + 1) ≡ true)
   unfolding definitions.assignment_at
-  assigned_at at eager export a h = assigned at eager export (name_at all at) a h
+  assigned_at at eager export a h = assigned at eager export (read_name_at all at) a h
 
   -- after `export` or `eager`
-  assigned_after : (w : List ℕ) (eager export : Bool) (a : Assignment) → is_word w (name_at all 0) ≡ true → definitions.assignment_at all 1 eager export ≡ Some a → sort all ≡ by_word w
+  assigned_after : (w : List ℕ) (eager export : Bool) (a : Assignment) → is_word w (read_name_at all 0) ≡ true → definitions.assignment_at all 1 eager export ≡ Some a → sort all ≡ by_word w
   assigned_after w eager export a is h =
       let found = assigned_at 1 eager export a h in
       let assign = standing is_assign kind.Assign assign_is (slice_get all 2) found.2 in
@@ -393,14 +393,14 @@ module _ (all : List Lexeme) where
   pub assignment_sort : (a : Assignment) → definitions.assignment all ≡ Some a → sort all ≡ a_variable
   assignment_sort a h = assignment_by_word (stands is_assign all 1) (word_at (codes "export") all 0) (word_at (codes "eager") all 0) a refl refl refl h
 
-  function_second : (name : Option Name) (f : FunctionDefinition) → name_at all 0 ≡ name → definitions.function_by all name ≡ Some f → sort all ≡ a_function
+  function_second : (name : Option Name) (f : FunctionDefinition) → read_name_at all 0 ≡ name → definitions.function_in_line all name ≡ Some f → sort all ≡ a_function
   function_second None f is h = absurd (none-some f h)
   function_second (Some name) f is h =
       let c = chosen (stands is_paren_open all 1) (definitions.with_parameters all name (definitions.parameters all 2)) f h in
       by_rest all name a_function is (by_paren second third word (standing is_paren_open kind.ParenOpen paren_is (slice_get all 1) c.0))
 
   pub function_sort : (f : FunctionDefinition) → definitions.function all ≡ Some f → sort all ≡ a_function
-  function_sort f h = function_second (name_at all 0) f refl h
+  function_sort f h = function_second (read_name_at all 0) f refl h
 
   no_parameter : (at : ℕ) (l : Lexeme) → slice_get all at ≡ Some l → starts l.kind ≡ false → heading.parameter all at ≡ None
   unfolding heading.parameter heading.named_parameter
@@ -418,7 +418,7 @@ module _ (all : List Lexeme) where
 
   -- what the parameters of a heading begin with
   parameters_begin : (at : ℕ) (found : List Parameter × ℕ) → heading.parameters all at ≡ Some found → (l : Lexeme) × (slice_get all at ≡ Some l) × (starts l.kind ≡ true)
-  unfolding parts
+  unfolding read_parts
   parameters_begin at found h = elim ((slice_get_cases all at).1) [
     | inl here ↦
         let f = front all at here.1 in
@@ -434,7 +434,7 @@ module _ (all : List Lexeme) where
 
   after_name : (l : Lexeme) → Front all 1 l → l.kind ≡ kind.Name → stands is_equals all 2 ≡ false
       → heading.parameters all 1 ≡ option_map {U = List Parameter × ℕ} (λ more. (plain_parameter l ∷ more.0, more.1)) (heading.parameters all 2)
-  unfolding parts
+  unfolding read_parts
   after_name l f is other = ap (parameters_from all 1 0) f.dropped ∙ rw (is, alone l f.there is other) refl
 
   parameters_go_on : (found : List Parameter × ℕ) → heading.parameters all 1 ≡ Some found → second ≡ Some kind.Name → goes_on third ≡ true
@@ -456,18 +456,18 @@ module _ (all : List Lexeme) where
       let front = parameters_begin 1 found (sym is) in
       by_start second third word front.0.kind (ap kind_of front.1) front.2 (parameters_go_on found (sym is))
 
-  heading_first : (name : Option Name) (it : Heading) → name_at all 0 ≡ name → heading.heading_at all false 0 name ≡ Some it → sort all ≡ a_heading
+  heading_first : (name : Option Name) (it : Heading) → read_name_at all 0 ≡ name → heading.heading_at all false 0 name ≡ Some it → sort all ≡ a_heading
   unfolding heading.after_name
   heading_first None it is h = absurd (none-some it h)
   heading_first (Some name) it is h = by_rest all name a_heading is (heading_second (heading.parameters all 1) name it refl h)
 
   heading_from : (b : Bool) (it : Heading) → stands is_at_sign all 0 ≡ b
-      → (if b then heading.heading_at all b 1 (name_at all 1) else heading.heading_at all b 0 (name_at all 0)) ≡ Some it → sort all ≡ a_heading
+      → (if b then heading.heading_at all b 1 (read_name_at all 1) else heading.heading_at all b 0 (read_name_at all 0)) ≡ Some it → sort all ≡ a_heading
   heading_from true it is h = ap (λ k. by_first k (named_sort all)) (standing is_at_sign kind.At at_sign_is (slice_get all 0) is)
-  heading_from false it is h = heading_first (name_at all 0) it refl h
+  heading_from false it is h = heading_first (read_name_at all 0) it refl h
 
-  pub heading_sort : (it : Heading) → heading.heading all ≡ Some it → sort all ≡ a_heading
-  unfolding heading.heading
+  pub heading_sort : (it : Heading) → heading.heading_in_line all ≡ Some it → sort all ≡ a_heading
+  unfolding heading.heading_in_line
   heading_sort it h = heading_from (stands is_at_sign all 0) it refl h
 
 -- the kinds of items without attributes
@@ -487,7 +487,7 @@ module _ (all : List Lexeme) where
   ]
 
   abbrev from_unexport : Option Statement
-  from_unexport = meaning.or_else (option_map statements.Unexports (definitions.unexport all)) (meaning.definition all)
+  from_unexport = meaning.first_there (option_map statements.Unexports (definitions.unexport all)) (meaning.definition all)
 
   unexport_item : (s : Statement) → from_unexport ≡ Some s → is_item (sort all) ≡ true
   unexport_item s h = elim (one_of (option_map statements.Unexports (definitions.unexport all)) (meaning.definition all) s h) [
@@ -496,7 +496,7 @@ module _ (all : List Lexeme) where
   ]
 
   abbrev from_set : Option Statement
-  from_set = meaning.or_else (option_map statements.Sets (definitions.set all)) from_unexport
+  from_set = meaning.first_there (option_map statements.Sets (definitions.set all)) from_unexport
 
   set_item : (s : Statement) → from_set ≡ Some s → is_item (sort all) ≡ true
   set_item s h = elim (one_of (option_map statements.Sets (definitions.set all)) from_unexport s h) [
@@ -547,7 +547,7 @@ module _ (all : List Lexeme) where
       let not : (k : Sort) → is_item k ≡ false → sort all ≡ k → ⊥ = λ k is other. false≢true (sym is ∙ sym (ap is_item other) ∙ told) in
       rw (no_module (not a_module refl), no_mark (not a_mark refl), no_alias (not an_alias refl), is) refl
 
-  pub headings_told : (h : Heading) → heading.heading all ≡ Some h → meaning.sorted all ≡ meanings.Begins h
+  pub headings_told : (h : Heading) → heading.heading_in_line all ≡ Some h → meaning.sorted all ≡ meanings.Begins h
   unfolding meaning.sorted
   headings_told h is =
       let told = heading_sort all h is in

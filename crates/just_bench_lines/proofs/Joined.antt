@@ -7,7 +7,7 @@ use Rattle.just_ast_expressions.specs.declared.list_use.ListUse.{ListUse}
 use Rattle.just_bench_expressions.specs.declared.lines.TextLine.{TextLine}
 use Rattle.just_bench_lines.specs.declared.body.BodyLine.{BodyLine}
 use Rattle.just_bench_lines.specs.declared.body.Part.{Part}
-use Rattle.just_bench_lines.specs.Body.{EndsAt, before_others, body_line, line_of, part, parts_from}
+use Rattle.just_bench_lines.specs.Body.{EndsAt, before_others, body_line, line_of_parts, part, parts_from}
 use Rattle.just_bench_lines.proofs.Fronts.{front}
 
 -- a line with parts before it
@@ -44,7 +44,7 @@ rest_after one at end bytes onward within =
 pub at_one : (one : ℕ → Option Part) (at : ℕ) (bytes : List ℕ) → at < length bytes → parts_from one at 0 (drop at bytes) ≡ before_others at (one at) (λ n. parts_from one (at + 1) n (drop (at + 1) bytes))
 at_one one at bytes within = let f = front bytes at within in ap (parts_from one at 0) f.1.dropped
 
-before_line : (number : ℕ) (p : Part) (more : Option (List Part)) → option_map (line_of number) (option_map (λ others. p ∷ others) more) ≡ option_map (joined (p.fragment ∷ []) p.lists) (option_map (line_of number) more)
+before_line : (number : ℕ) (p : Part) (more : Option (List Part)) → option_map (line_of_parts number) (option_map (λ others. p ∷ others) more) ≡ option_map (joined (p.fragment ∷ []) p.lists) (option_map (line_of_parts number) more)
 before_line number p None = refl
 before_line number p (Some more) = refl
 
@@ -53,7 +53,7 @@ one_more : (path text : List ℕ) (line : TextLine) (at : ℕ) (p : Part) → at
     → body_line path text line at ≡ option_map (joined (p.fragment ∷ []) p.lists) (body_line path text line p.end)
 unfolding body_line
 one_more path text line at p within is ends =
-    ap (option_map (line_of line.number)) (at_one (part path text line) at line.text within
+    ap (option_map (line_of_parts line.number)) (at_one (part path text line) at line.text within
     ∙ ap (λ o. before_others at o (λ n. parts_from (part path text line) (at + 1) n (drop (at + 1) line.text))) (sym is)
     ∙ ap (option_map (λ others. p ∷ others)) (rest_after (part path text line) at p.end line.text ends.onward ends.within))
     ∙ before_line line.number p (parts_from (part path text line) p.end 0 (drop p.end line.text))
@@ -74,12 +74,12 @@ pub joined_fail : (path text : List ℕ) (line : TextLine) (start : ℕ) (fragme
     → None ≡ part path text line at → None ≡ body_line path text line start
 unfolding body_line
 joined_fail path text line start fragments lists at so_far within is =
-    sym (so_far.whole ∙ ap (λ o. option_map (joined fragments lists) (option_map (line_of line.number) o)) (at_one (part path text line) at line.text within
+    sym (so_far.whole ∙ ap (λ o. option_map (joined fragments lists) (option_map (line_of_parts line.number) o)) (at_one (part path text line) at line.text within
     ∙ ap (λ o. before_others at o (λ n. parts_from (part path text line) (at + 1) n (drop (at + 1) line.text))) (sym is)))
 
 pub joined_end : (path text : List ℕ) (line : TextLine) (start : ℕ) (fragments : List Fragment) (lists : List ListUse) (at : ℕ) → Joined path text line start fragments lists at → length line.text ≤ at
     → Some (record { line = record { number = line.number; fragments = fragments }; lists = lists }) ≡ body_line path text line start
 unfolding body_line
 joined_end path text line start fragments lists at so_far past =
-    sym (so_far.whole ∙ ap (λ bytes. option_map (joined fragments lists) (option_map (line_of line.number) (parts_from (part path text line) at 0 bytes))) (drop_all at line.text past)
+    sym (so_far.whole ∙ ap (λ bytes. option_map (joined fragments lists) (option_map (line_of_parts line.number) (parts_from (part path text line) at 0 bytes))) (drop_all at line.text past)
     ∙ rw (append-nil fragments, append-nil lists) refl)

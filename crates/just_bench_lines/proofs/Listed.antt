@@ -12,7 +12,7 @@ use Rattle.just_bench_expressions.specs.declared.lexer.Kind.{Kind}
 use Rattle.just_bench_expressions.specs.declared.lexer.Kind.TheVariants as kind
 use Rattle.just_bench_expressions.specs.declared.lexer.Lexeme.{Lexeme}
 use Rattle.just_bench_lines.specs.Definitions.{after_part, and_parameter, closes, function_parameter, parameters, parameters_from}
-use Rattle.just_bench_lines.specs.Places.{is_comma, is_name, is_paren_close, name_at, name_there, stands, stands_there}
+use Rattle.just_bench_lines.specs.Places.{is_comma, is_name_kind, is_paren_close, read_name_at, name_there, stands, stands_there}
 use Rattle.just_bench_lines.proofs.Fronts.{front, stands_front}
 
 -- those that were read before others
@@ -35,11 +35,11 @@ grown : (made : List FunctionParameter) (l : Lexeme) (o : Option (List FunctionP
 grown made l None = refl
 grown made l (Some more) = ap (λ ps. Some (ps, more.1)) (sym (append_assoc made (function_parameter l ∷ []) more.0))
 
-name_is_no_close : (k : Kind) → is_name k ≡ true → is_paren_close k ≡ false
+name_is_no_close : (k : Kind) → is_name_kind k ≡ true → is_paren_close k ≡ false
 name_is_no_close kind.Name h = refl
 name_is_no_close _ h = absurd (false≢true h)
 
-close_is_no_name : (k : Kind) → is_paren_close k ≡ true → is_name k ≡ false
+close_is_no_name : (k : Kind) → is_paren_close k ≡ true → is_name_kind k ≡ false
 close_is_no_name kind.ParenClose h = refl
 close_is_no_name _ h = absurd (false≢true h)
 
@@ -47,22 +47,22 @@ close_is_no_name _ h = absurd (false≢true h)
 abbrev name_of : Lexeme → Name
 name_of l = record { token = l.token }
 
-named : (l : Lexeme) (name : Name) (b : Bool) → is_name l.kind ≡ b → Some name ≡ (if b then Some (name_of l) else None) → (is_name l.kind ≡ true) × (record { name = name; number = no_number } ≡ function_parameter l)
+named : (l : Lexeme) (name : Name) (b : Bool) → is_name_kind l.kind ≡ b → Some name ≡ (if b then Some (name_of l) else None) → (is_name_kind l.kind ≡ true) × (record { name = name; number = no_number } ≡ function_parameter l)
 named l name true is h = (is, ap (λ (n : Name). record { name = n; number = no_number }) (same_Some name (name_of l) h))
 named l name false is h = absurd (none-some name (sym h))
 
-unnamed : (l : Lexeme) (b : Bool) → is_name l.kind ≡ b → None ≡ (if b then Some (name_of l) else None) → is_name l.kind ≡ false
+unnamed : (l : Lexeme) (b : Bool) → is_name_kind l.kind ≡ b → None ≡ (if b then Some (name_of l) else None) → is_name_kind l.kind ≡ false
 unnamed l true is h = absurd (none-some (name_of l) h)
 unnamed l false is h = is
 
-within_name : (all : List Lexeme) (at : ℕ) (name : Name) → Some name ≡ name_at all at → at < length all
+within_name : (all : List Lexeme) (at : ℕ) (name : Name) → Some name ≡ read_name_at all at → at < length all
 within_name all at name h = elim ((slice_get_cases all at).1) [
   | inl here ↦ here.1
   | inr past ↦ absurd (none-some name (sym (h ∙ ap name_there past.1)))
 ]
 
 -- what was read of a lexeme that is no name, and of one that is
-no_name : (at : ℕ) (l : Lexeme) (rest : List Lexeme) → is_name l.kind ≡ false → parameters_from at (l ∷ rest) ≡ (if is_paren_close l.kind then Some ([], at + 1) else None)
+no_name : (at : ℕ) (l : Lexeme) (rest : List Lexeme) → is_name_kind l.kind ≡ false → parameters_from at (l ∷ rest) ≡ (if is_paren_close l.kind then Some ([], at + 1) else None)
 no_name at l [] h = refl
 no_name at l (m ∷ rest) h = rw h refl
 
@@ -72,16 +72,16 @@ after_name at l (m ∷ rest) =
     if is_comma m.kind then (if closes rest then None else and_parameter l (parameters_from (at + 2) rest))
     else (if is_paren_close m.kind then Some (function_parameter l ∷ [], at + 2) else None)
 
-a_name : (at : ℕ) (l : Lexeme) (rest : List Lexeme) → is_name l.kind ≡ true → parameters_from at (l ∷ rest) ≡ after_name at l rest
+a_name : (at : ℕ) (l : Lexeme) (rest : List Lexeme) → is_name_kind l.kind ≡ true → parameters_from at (l ∷ rest) ≡ after_name at l rest
 a_name at l [] h = rw (name_is_no_close l.kind h) refl
 a_name at l (m ∷ rest) h = rw h refl
 
 -- what follows the name at a place
-tail_at : (all : List Lexeme) (at : ℕ) (name : Name) → Some name ≡ name_at all at
+tail_at : (all : List Lexeme) (at : ℕ) (name : Name) → Some name ≡ read_name_at all at
     → (l : Lexeme) × (record { name = name; number = no_number } ≡ function_parameter l) × (parameters_from at (drop at all) ≡ after_name at l (drop (at + 1) all))
 tail_at all at name h =
     let f = front all at (within_name all at name h) in
-    let n = named f.0 name (is_name f.0.kind) refl (h ∙ ap name_there f.1.there) in
+    let n = named f.0 name (is_name_kind f.0.kind) refl (h ∙ ap name_there f.1.there) in
     (f.0, n.1, ap (parameters_from at) f.1.dropped ∙ a_name at f.0 (drop (at + 1) all) n.0)
 
 -- the place of a lexeme that stands there
@@ -130,7 +130,7 @@ goes_on all at l next true c false p q r h =
 goes_on all at l next false true d p q r h = close_after all at l p q ∙ ap (λ n. and_parameter l (parameters_from n (drop n all))) (sym (same_Some next (at + 1) h))
 goes_on all at l next false false d p q r h = absurd (none-some next (sym h))
 
-pub listed_step : (all : List Lexeme) (start : ℕ) (made : List FunctionParameter) (at : ℕ) (name : Name) (next : ℕ) (made' : List FunctionParameter) → Listed all start made at → Some name ≡ name_at all at
+pub listed_step : (all : List Lexeme) (start : ℕ) (made : List FunctionParameter) (at : ℕ) (name : Name) (next : ℕ) (made' : List FunctionParameter) → Listed all start made at → Some name ≡ read_name_at all at
     → Some next ≡ after_part all (at + 1) → made' ≡ made ++ record { name = name; number = no_number } ∷ [] → Listed all start made' next
 listed_step all start made at name next made' so_far is goes pushed =
     let t = tail_at all at name is in
@@ -138,18 +138,18 @@ listed_step all start made at name next made' so_far is goes pushed =
       whole = so_far.whole ∙ ap (after_those made) (t.2 ∙ goes_on all at t.0 next (stands is_comma all (at + 1)) (stands is_paren_close all (at + 1)) (stands is_paren_close all (at + 1 + 1)) refl refl refl goes) ∙ grown made t.0 (parameters_from next (drop next all));
     })
 
-no_name_at : (all : List Lexeme) (at : ℕ) (b : Bool) → None ≡ name_at all at → stands is_paren_close all at ≡ b → parameters_from at (drop at all) ≡ (if b then Some ([], at + 1) else None)
+no_name_at : (all : List Lexeme) (at : ℕ) (b : Bool) → None ≡ read_name_at all at → stands is_paren_close all at ≡ b → parameters_from at (drop at all) ≡ (if b then Some ([], at + 1) else None)
 no_name_at all at b is close = elim ((slice_get_cases all at).1) [
   | inl here ↦
       let f = front all at here.1 in
-      ap (parameters_from at) f.1.dropped ∙ no_name at f.0 (drop (at + 1) all) (unnamed f.0 (is_name f.0.kind) refl (is ∙ ap name_there f.1.there)) ∙ rw (stands_front is_paren_close all at f.0 b f.1 close) refl
+      ap (parameters_from at) f.1.dropped ∙ no_name at f.0 (drop (at + 1) all) (unnamed f.0 (is_name_kind f.0.kind) refl (is ∙ ap name_there f.1.there)) ∙ rw (stands_front is_paren_close all at f.0 b f.1 close) refl
   | inr past ↦ ap (parameters_from at) (drop_all at all past.0) ∙ ap (λ c. if c then Some ([], at + 1) else None) (sym (ap (stands_there is_paren_close) past.1) ∙ close)
 ]
 
-pub listed_end : (all : List Lexeme) (start : ℕ) (made : List FunctionParameter) (at : ℕ) → Listed all start made at → None ≡ name_at all at → stands is_paren_close all at ≡ true → Some (made, at + 1) ≡ parameters all start
+pub listed_end : (all : List Lexeme) (start : ℕ) (made : List FunctionParameter) (at : ℕ) → Listed all start made at → None ≡ read_name_at all at → stands is_paren_close all at ≡ true → Some (made, at + 1) ≡ parameters all start
 listed_end all start made at so_far is close = sym (so_far.whole ∙ ap (after_those made) (no_name_at all at true is close) ∙ ap (λ ps. Some (ps, at + 1)) (append-nil made))
 
-pub listed_fail : (all : List Lexeme) (start : ℕ) (made : List FunctionParameter) (at : ℕ) → Listed all start made at → None ≡ name_at all at → stands is_paren_close all at ≡ false → None ≡ parameters all start
+pub listed_fail : (all : List Lexeme) (start : ℕ) (made : List FunctionParameter) (at : ℕ) → Listed all start made at → None ≡ read_name_at all at → stands is_paren_close all at ≡ false → None ≡ parameters all start
 listed_fail all start made at so_far is close = sym (so_far.whole ∙ ap (after_those made) (no_name_at all at false is close))
 
 -- after a name stands neither, or a comma before the `)`
@@ -165,7 +165,7 @@ stuck all at l false false d p q r h = elim ((slice_get_cases all (at + 1)).1) [
   | inr past ↦ ap (after_name at l) (drop_all (at + 1) all past.0)
 ]
 
-pub listed_stuck : (all : List Lexeme) (start : ℕ) (made : List FunctionParameter) (at : ℕ) (name : Name) → Listed all start made at → Some name ≡ name_at all at → None ≡ after_part all (at + 1) → None ≡ parameters all start
+pub listed_stuck : (all : List Lexeme) (start : ℕ) (made : List FunctionParameter) (at : ℕ) (name : Name) → Listed all start made at → Some name ≡ read_name_at all at → None ≡ after_part all (at + 1) → None ≡ parameters all start
 listed_stuck all start made at name so_far is goes =
     let t = tail_at all at name is in
     sym (so_far.whole ∙ ap (after_those made) (t.2 ∙ stuck all at t.0 (stands is_comma all (at + 1)) (stands is_paren_close all (at + 1)) (stands is_paren_close all (at + 1 + 1)) refl refl refl goes))

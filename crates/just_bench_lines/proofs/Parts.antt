@@ -5,7 +5,7 @@ use Rattle.std.specs.Prelude.{if◌then◌else◌}
 use Rattle.std.proofs.lemmas.List.{append-nil, drop_all, drop-drop}
 use Rattle.just_bench_expressions.specs.declared.lexer.Kind.{Kind}
 use Rattle.just_bench_expressions.specs.declared.lexer.Lexeme.{Lexeme}
-use Rattle.just_bench_lines.specs.Parts.{before_others, parts, parts_from}
+use Rattle.just_bench_lines.specs.Parts.{before_others, read_parts, parts_from}
 use Rattle.just_bench_lines.specs.Places.{GoesOn, stands}
 use Rattle.just_bench_lines.proofs.Fronts.{Front, front, stands_front}
 
@@ -15,7 +15,7 @@ after_those {A} made = option_map {U = List A × ℕ} (λ more. (made ++ more.0,
 
 -- what was read and what is left make the whole
 pub record Parts {A : Type 0} (ends : Bool) (stop : Kind → Bool) (part : List Lexeme → ℕ → Option (A × ℕ)) (all : List Lexeme) (start : ℕ) (made : List A) (at : ℕ) : Type 0 where
-  pub whole : parts ends stop part all start ≡ after_those made (parts_from ends stop part all at 0 (drop at all))
+  pub whole : read_parts ends stop part all start ≡ after_those made (parts_from ends stop part all at 0 (drop at all))
 
 none_before : {A : Type 0} (o : Option (List A × ℕ)) → o ≡ after_those [] o
 none_before None = refl
@@ -35,7 +35,7 @@ module _ {A : Type 0} (ends : Bool) (stop : Kind → Bool) (part : List Lexeme �
       skip (at + 1) n ls (omega (arith, h)) ∙ ap (λ m. parts_from ends stop part all m 0 (drop n ls)) same
 
   pub parts_start : (start : ℕ) (made : List A) → made ≡ [] → Parts ends stop part all start made start
-  unfolding parts
+  unfolding read_parts
   parts_start start made none = record { whole = rw none (none_before (parts_from ends stop part all start 0 (drop start all))) }
 
   -- what stands at a place, the end or not
@@ -64,21 +64,21 @@ module _ {A : Type 0} (ends : Bool) (stop : Kind → Bool) (part : List Lexeme �
         ∙ grown made p (parts_from ends stop part all end 0 (drop end all));
   })
 
-  pub parts_stop : (start : ℕ) (made : List A) (at : ℕ) → Parts ends stop part all start made at → at < length all → stands stop all at ≡ true → Some (made, at) ≡ parts ends stop part all start
+  pub parts_stop : (start : ℕ) (made : List A) (at : ℕ) → Parts ends stop part all start made at → at < length all → stands stop all at ≡ true → Some (made, at) ≡ read_parts ends stop part all start
   parts_stop start made at so_far within stopped =
       sym (so_far.whole ∙ ap (after_those made) (here_is at true within stopped) ∙ ap (λ ps. Some (ps, at)) (append-nil made))
 
   pub parts_fail : (start : ℕ) (made : List A) (at : ℕ) → Parts ends stop part all start made at → at < length all → stands stop all at ≡ false → None ≡ part all at
-      → None ≡ parts ends stop part all start
+      → None ≡ read_parts ends stop part all start
   parts_fail start made at so_far within sharp is =
       sym (so_far.whole ∙ ap (after_those made) (here_is at false within sharp ∙ ap (λ o. before_others at o (λ n. parts_from ends stop part all (at + 1) n (drop (at + 1) all))) (sym is)))
 
 -- at the end of the line
 pub parts_cut : {A : Type 0} (stop : Kind → Bool) (part : List Lexeme → ℕ → Option (A × ℕ)) (all : List Lexeme) (start : ℕ) (made : List A) (at : ℕ)
-    → Parts false stop part all start made at → length all ≤ at → None ≡ parts false stop part all start
+    → Parts false stop part all start made at → length all ≤ at → None ≡ read_parts false stop part all start
 parts_cut stop part all start made at so_far past = sym (so_far.whole ∙ ap (λ ls. after_those made (parts_from false stop part all at 0 ls)) (drop_all at all past))
 
 pub parts_past : {A : Type 0} (stop : Kind → Bool) (part : List Lexeme → ℕ → Option (A × ℕ)) (all : List Lexeme) (start : ℕ) (made : List A) (at : ℕ)
-    → Parts true stop part all start made at → length all ≤ at → Some (made, at) ≡ parts true stop part all start
+    → Parts true stop part all start made at → length all ≤ at → Some (made, at) ≡ read_parts true stop part all start
 parts_past stop part all start made at so_far past =
     sym (so_far.whole ∙ ap (λ ls. after_those made (parts_from true stop part all at 0 ls)) (drop_all at all past) ∙ ap (λ ps. Some (ps, at)) (append-nil made))

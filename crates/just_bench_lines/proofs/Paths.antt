@@ -7,8 +7,8 @@ use Rattle.std.proofs.lemmas.Option.{none-some}
 use Rattle.just_names.specs.declared.name.Name.{Name}
 use Rattle.just_names.specs.declared.name.Namepath.{Namepath}
 use Rattle.just_bench_expressions.specs.declared.lexer.Lexeme.{Lexeme}
-use Rattle.just_bench_lines.specs.Path.{and_names, joined_at, joined_names, path, path_from, path_of, separates}
-use Rattle.just_bench_lines.specs.Places.{name_at, name_there}
+use Rattle.just_bench_lines.specs.Path.{and_names, joined_at, joined_names, path, path_from, path_of_names, separates}
+use Rattle.just_bench_lines.specs.Places.{read_name_at, name_there}
 
 -- names before a path
 abbrev pub after_names : List Name → Namepath → Namepath
@@ -16,9 +16,9 @@ after_names names path = record { front = names ++ path.front; last = path.last 
 
 -- what was read and what is left make the whole
 pub record Pathed (all : List Lexeme) (start : ℕ) (names : List Name) (last : Name) (at : ℕ) : Type 0 where
-  pub whole : path all start ≡ Some (after_names names (path_of last (joined_names (drop at all))), at + 3 * length (joined_names (drop at all)))
+  pub whole : path all start ≡ Some (after_names names (path_of_names last (joined_names (drop at all))), at + 3 * length (joined_names (drop at all)))
 
-pub path_starts : (all : List Lexeme) (start : ℕ) (names : List Name) (last : Name) (at : ℕ) → Some last ≡ name_at all start → names ≡ [] → at ≡ start + 1 → Pathed all start names last at
+pub path_starts : (all : List Lexeme) (start : ℕ) (names : List Name) (last : Name) (at : ℕ) → Some last ≡ read_name_at all start → names ≡ [] → at ≡ start + 1 → Pathed all start names last at
 unfolding path
 path_starts all start names last at is none place = rw (none, place) (record { whole = ap (path_from start (joined_names (drop (start + 1) all))) (sym is) })
 
@@ -64,9 +64,9 @@ path_push all start names last at name names' so_far is pushed =
     let next : joined_names (drop at all) ≡ name ∷ more = joined_next (drop at all) name (is ∙ joined_drop all at) ∙ ap (λ ls. name ∷ joined_names ls) (drop-drop 3 at all) in
     let place : at + 3 * length (name ∷ more) ≡ at + 3 + 3 * length more = omega arith in
     rw pushed (record {
-      whole = so_far.whole ∙ ap (λ ns. Some (after_names names (path_of last ns), at + 3 * length ns)) next
-          ∙ ap (λ n. Some (after_names names (path_of last (name ∷ more)), n)) place
-          ∙ ap (λ ns. Some (record { front = ns; last = (path_of name more).last }, at + 3 + 3 * length more)) (sym (append_assoc names (last ∷ []) (path_of name more).front));
+      whole = so_far.whole ∙ ap (λ ns. Some (after_names names (path_of_names last ns), at + 3 * length ns)) next
+          ∙ ap (λ n. Some (after_names names (path_of_names last (name ∷ more)), n)) place
+          ∙ ap (λ ns. Some (record { front = ns; last = (path_of_names name more).last }, at + 3 + 3 * length more)) (sym (append_assoc names (last ∷ []) (path_of_names name more).front));
     })
 
 pub path_ends : (all : List Lexeme) (start : ℕ) (names : List Name) (last : Name) (at : ℕ) → Pathed all start names last at → None ≡ joined_at all at
@@ -74,9 +74,9 @@ pub path_ends : (all : List Lexeme) (start : ℕ) (names : List Name) (last : Na
 path_ends all start names last at so_far is =
     let none = joined_none (drop at all) (is ∙ joined_drop all at) in
     let place : at + 3 * 0 ≡ at = omega arith in
-    sym (so_far.whole ∙ ap (λ ns. Some (after_names names (path_of last ns), at + 3 * length ns)) none
-    ∙ ap (λ n. Some (after_names names (path_of last []), n)) place ∙ ap (λ ns. Some (record { front = ns; last = last }, at)) (append-nil names))
+    sym (so_far.whole ∙ ap (λ ns. Some (after_names names (path_of_names last ns), at + 3 * length ns)) none
+    ∙ ap (λ n. Some (after_names names (path_of_names last []), n)) place ∙ ap (λ ns. Some (record { front = ns; last = last }, at)) (append-nil names))
 
-pub no_path : (all : List Lexeme) (start : ℕ) → None ≡ name_at all start → None ≡ path all start
+pub no_path : (all : List Lexeme) (start : ℕ) → None ≡ read_name_at all start → None ≡ path all start
 unfolding path
 no_path all start is = ap (path_from start (joined_names (drop (start + 1) all))) is

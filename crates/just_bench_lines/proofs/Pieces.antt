@@ -17,7 +17,7 @@ use Rattle.just_bench_expressions.specs.Lines.{IsLineOf}
 use Rattle.just_bench_expressions.proofs.Each.{part_of_line}
 use Rattle.just_bench_lines.specs.declared.body.BodyLine.{BodyLine}
 use Rattle.just_bench_lines.specs.declared.body.Part.{Part}
-use Rattle.just_bench_lines.specs.Body.{before_others, body_line, close_at, close_from, closed, closes, closes_twice, in_quotes, interpolated, interpolation_of, line_of, part, part_by, parts_from, text_at, twice_at}
+use Rattle.just_bench_lines.specs.Body.{before_others, body_line, close_at, close_from, closed, closes, closes_twice, in_quotes, interpolated, interpolation_of, line_of_parts, part, part_by, parts_from, text_part_at, twice_at}
 use Rattle.just_bench_lines.specs.Definitions.{whole_expression}
 use Rattle.just_bench_lines.specs.Pieces.{ArePieces, AreFrom, HasNoOpening, IsPiece}
 use Rattle.just_bench_lines.proofs.Bounds.{twice_found, TwiceAt, close_found, ClosesAt}
@@ -142,7 +142,7 @@ module _ (path text : List ℕ) (line : TextLine) (of : IsLineOf text line) wher
     onward : at < p.end
     within : p.end ≤ length line.text
 
-  text_piece : (at end : ℕ) → at < end → end ≤ length line.text → NoTwice 123 (take (end - at) (drop at line.text)) → PieceOf at (text_at path text line at end)
+  text_piece : (at end : ℕ) → at < end → end ≤ length line.text → NoTwice 123 (take (end - at) (drop at line.text)) → PieceOf at (text_part_at path text line at end)
   text_piece at end onward within none =
       let place_is : at + (end - at) ≡ end = omega (arith, onward) in
       record {
@@ -244,7 +244,7 @@ module _ (path text : List ℕ) (line : TextLine) (of : IsLineOf text line) wher
     | inr past ↦ from_end at ps past is
   ]
 
-  from_line : (start : ℕ) (o : Option (List Part)) (b : BodyLine) → option_map (line_of line.number) o ≡ Some b → ((ps : List Part) → o ≡ Some ps → From start ps) → AreFrom path text line start b.line.fragments
+  from_line : (start : ℕ) (o : Option (List Part)) (b : BodyLine) → option_map (line_of_parts line.number) o ≡ Some b → ((ps : List Part) → o ≡ Some ps → From start ps) → AreFrom path text line start b.line.fragments
   from_line start None b is all = cc
   from_line start (Some ps) b is all = subst (λ o. IfSome o (λ (b : BodyLine). AreFrom path text line start b.line.fragments)) is (all ps refl)
 

@@ -13,15 +13,15 @@ use Rattle.just_bench_expressions.specs.Expressions.{expression}
 use Rattle.just_bench_lines.specs.declared.attributes.Mark.{Mark}
 use Rattle.just_bench_lines.specs.declared.attributes.Properties.{Properties}
 use Rattle.just_bench_lines.specs.Definitions.{after_part}
-use Rattle.just_bench_lines.specs.Places.{literal_at, name_at, stands, is_bracket_close, is_bracket_open, is_equals, is_paren_close, is_paren_open}
+use Rattle.just_bench_lines.specs.Places.{literal_at, read_name_at, stands, is_bracket_close, is_bracket_open, is_equals, is_paren_close, is_paren_open}
 
 -- `]` ends the line
 abbrev pub ends_at : List Lexeme → ℕ → Bool
 ends_at all at = if stands is_bracket_close all at then at + 1 == length all else false
 
 -- an attribute that is a word alone
-abbrev pub bare : List ℕ → Option (Attribute Expression)
-bare word =
+abbrev pub word_alone : List ℕ → Option (Attribute Expression)
+word_alone word =
     if bytes_eq word (codes "default") then Some attributes.Default
     else (if bytes_eq word (codes "private") then Some attributes.Private
     else (if bytes_eq word (codes "parallel") then Some attributes.Parallel
@@ -72,14 +72,14 @@ abbrev pub with_flag : ℕ → Properties → Option (Properties × ℕ)
 with_flag at properties = if properties.flag then None else Some (record properties { flag = true }, at)
 
 -- `pattern=E`, once
-abbrev pub pattern_by : Name → Properties → Option Found → Option (Properties × ℕ)
-pattern_by key properties None = None
-pattern_by key properties (Some found) = Some (record properties { pattern = Some (record { key = key; value = found.made }) }, found.end)
+abbrev pub read_pattern : Name → Properties → Option Found → Option (Properties × ℕ)
+read_pattern key properties None = None
+read_pattern key properties (Some found) = Some (record properties { pattern = Some (record { key = key; value = found.made }) }, found.end)
 
 abbrev pub with_pattern : List Lexeme → Name → ℕ → Properties → Option (Properties × ℕ)
 with_pattern all key at properties =
     if is_some properties.pattern then None
-    else (if stands is_equals all at then pattern_by key properties (expression true all (at + 1)) else None)
+    else (if stands is_equals all at then read_pattern key properties (expression true all (at + 1)) else None)
 
 -- what stands at a place, by its word
 abbrev pub by_key : List Lexeme → ℕ → Properties → Option Name → Option (Properties × ℕ)
@@ -92,7 +92,7 @@ by_key all at properties (Some key) =
     else None)))
 
 unfoldable pub with_property : List Lexeme → ℕ → Properties → Option (Properties × ℕ)
-with_property all at properties = by_key all at properties (name_at all at)
+with_property all at properties = by_key all at properties (read_name_at all at)
 
 -- others after what was read, which begin after so many lexemes
 abbrev pub after_property : ℕ → Properties → Option ℕ → (ℕ → Properties → Option (Properties × ℕ)) → Option (Properties × ℕ)
@@ -143,19 +143,19 @@ arg all name at = arg_of all name at (literal_at all at)
 abbrev pub closes_at : List Lexeme → ℕ → Bool
 closes_at all at = if stands is_paren_close all at then ends_at all (at + 1) else false
 
-abbrev pub group_of : List Lexeme → ℕ → Option StringLiteral → Option (Attribute Expression)
-group_of all at None = None
-group_of all at (Some text) = if closes_at all (at + 1) then Some (attributes.Group text) else None
+abbrev pub group_attribute : List Lexeme → ℕ → Option StringLiteral → Option (Attribute Expression)
+group_attribute all at None = None
+group_attribute all at (Some text) = if closes_at all (at + 1) then Some (attributes.Group text) else None
 
-unfoldable pub group : List Lexeme → ℕ → Option (Attribute Expression)
-group all at = group_of all at (literal_at all at)
+unfoldable pub group_in_line : List Lexeme → ℕ → Option (Attribute Expression)
+group_in_line all at = group_attribute all at (literal_at all at)
 
-abbrev pub doc_of : List Lexeme → Option Found → Option (Attribute Expression)
-doc_of all None = None
-doc_of all (Some found) = if closes_at all found.end then Some (attributes.Doc (Some found.made)) else None
+abbrev pub doc_attribute : List Lexeme → Option Found → Option (Attribute Expression)
+doc_attribute all None = None
+doc_attribute all (Some found) = if closes_at all found.end then Some (attributes.Doc (Some found.made)) else None
 
 unfoldable pub doc : List Lexeme → ℕ → Option (Attribute Expression)
-doc all at = doc_of all (expression true all at)
+doc all at = doc_attribute all (expression true all at)
 
 -- an attribute that says nothing of a parameter
 abbrev pub marked : Name → Option (Attribute Expression) → Option Mark
@@ -165,7 +165,7 @@ marked name (Some it) = Some (record { named = record { name = name; attribute =
 -- an attribute with something in parentheses
 abbrev pub with_argument : List Lexeme → Name → Option Mark
 with_argument all name =
-    if bytes_eq (lexeme name.token) (codes "group") then marked name (group all 3)
+    if bytes_eq (lexeme name.token) (codes "group_in_line") then marked name (group_in_line all 3)
     else (if bytes_eq (lexeme name.token) (codes "doc") then marked name (doc all 3)
     else (if bytes_eq (lexeme name.token) (codes "arg") then arg all name 3
     else None))
@@ -173,9 +173,9 @@ with_argument all name =
 abbrev pub attribute_of : List Lexeme → Option Name → Option Mark
 attribute_of all None = None
 attribute_of all (Some name) =
-    if ends_at all 2 then marked name (bare (lexeme name.token))
+    if ends_at all 2 then marked name (word_alone (lexeme name.token))
     else (if stands is_paren_open all 2 then with_argument all name else None)
 
 -- `[NAME]` or `[NAME(..)]`
 unfoldable pub attribute : List Lexeme → Option Mark
-attribute all = if stands is_bracket_open all 0 then attribute_of all (name_at all 1) else None
+attribute all = if stands is_bracket_open all 0 then attribute_of all (read_name_at all 1) else None

@@ -9,7 +9,7 @@ use Rattle.just_ast_definitions.specs.declared.line.Fragment.TheVariants as frag
 use Rattle.just_bench_expressions.specs.declared.lexer.Lexeme.{Lexeme}
 use Rattle.just_bench_expressions.specs.declared.lines.TextLine.{TextLine}
 use Rattle.just_bench_expressions.specs.Features.{list_features}
-use Rattle.just_bench_expressions.specs.Lexemes.{is_blank, lexemes, place}
+use Rattle.just_bench_expressions.specs.Lexemes.{is_blank, lexemes, lexeme_place}
 use Rattle.just_bench_lines.specs.declared.body.BodyLine.{BodyLine}
 use Rattle.just_bench_lines.specs.declared.body.Part.{Part}
 use Rattle.just_bench_lines.specs.Definitions.{whole_expression}
@@ -50,10 +50,10 @@ close_at = close_from false
 
 -- a text from one column to another
 abbrev pub text_part : List ℕ → List ℕ → TextLine → ℕ → ℕ → Fragment
-text_part path text line start end = fragment.Text (place path text line start (end - start))
+text_part path text line start end = fragment.Text (lexeme_place path text line start (end - start))
 
-abbrev pub text_at : List ℕ → List ℕ → TextLine → ℕ → ℕ → Part
-text_at path text line start end = record { fragment = text_part path text line start end; lists = []; end = end }
+abbrev pub text_part_at : List ℕ → List ℕ → TextLine → ℕ → ℕ → Part
+text_part_at path text line start end = record { fragment = text_part path text line start end; lists = []; end = end }
 
 -- an interpolation of this expression, whose last lexeme stands before a column
 abbrev pub interpolated : List Lexeme → ℕ → Option Expression → Option Part
@@ -76,9 +76,9 @@ interpolation_at path text line start = closed path text line (start + 2) (close
 
 -- a part of a line: an interpolation where `{{` is at the front, else the text before the next one
 abbrev pub part_by : List ℕ → List ℕ → TextLine → ℕ → Option ℕ → Option Part
-part_by path text line start None = Some (text_at path text line start (length line.text))
+part_by path text line start None = Some (text_part_at path text line start (length line.text))
 part_by path text line start (Some zero) = interpolation_at path text line start
-part_by path text line start (Some (suc n)) = Some (text_at path text line start (start + suc n))
+part_by path text line start (Some (suc n)) = Some (text_part_at path text line start (start + suc n))
 
 unfoldable pub part : List ℕ → List ℕ → TextLine → ℕ → Option Part
 part path text line start = part_by path text line start (twice_at 123 (drop start line.text))
@@ -94,15 +94,15 @@ parts_from one at skip [] = Some []
 parts_from one at (suc skip) (b ∷ rest) = parts_from one (at + 1) skip rest
 parts_from one at zero (b ∷ rest) = before_others at (one at) (λ skip. parts_from one (at + 1) skip rest)
 
-abbrev pub line_of : ℕ → List Part → BodyLine
-line_of number parts = record {
+abbrev pub line_of_parts : ℕ → List Part → BodyLine
+line_of_parts number parts = record {
   line = record { number = number; fragments = map (λ (p : Part). p.fragment) parts };
   lists = flat_map (λ (p : Part). p.lists) parts;
 }
 
 -- a line of a body from a column on
 unfoldable pub body_line : List ℕ → List ℕ → TextLine → ℕ → Option BodyLine
-body_line path text line start = option_map (line_of line.number) (parts_from (part path text line) start 0 (drop start line.text))
+body_line path text line start = option_map (line_of_parts line.number) (parts_from (part path text line) start 0 (drop start line.text))
 
 -- for the private functions: a part goes on from a column, and no character is cut where it ends
 pub record EndsAt (text : List ℕ) (line : TextLine) (start end : ℕ) : Type 0 where

@@ -18,15 +18,15 @@ use Rattle.just_ast_definitions.specs.declared.setting.Setting.TheVariants as se
 use Rattle.just_bench_expressions.specs.declared.expressions.Found.{Found}
 use Rattle.just_bench_expressions.specs.declared.lexer.Lexeme.{Lexeme}
 use Rattle.just_bench_expressions.specs.Expressions.{expression}
-use Rattle.just_bench_lines.specs.Places.{name_at, stands, word_at, is_assign, is_comma, is_name, is_paren_close, is_paren_open}
+use Rattle.just_bench_lines.specs.Places.{read_name_at, stands, word_at, is_assign, is_comma, is_name_kind, is_paren_close, is_paren_open}
 
 -- a name that begins with `_`
 abbrev pub begins_low : List ℕ → Bool
 begins_low [] = false
 begins_low (b ∷ rest) = b == 95
 
-abbrev pub is_private : Name → Bool
-is_private name = begins_low (lexeme name.token)
+abbrev pub has_low_name : Name → Bool
+has_low_name name = begins_low (lexeme name.token)
 
 -- an expression that ends where the line does
 abbrev pub ends_line : List Lexeme → Option Found → Option Expression
@@ -99,31 +99,31 @@ abbrev pub named_set : Name → Option Setting → Option Set
 named_set name None = None
 named_set name (Some value) = Some (record { name = name; value = value })
 
-abbrev pub set_by : List Lexeme → Option Name → Option Set
-set_by all None = None
-set_by all (Some name) = named_set name (setting_by all (lexeme name.token))
+abbrev pub set_in_line : List Lexeme → Option Name → Option Set
+set_in_line all None = None
+set_in_line all (Some name) = named_set name (setting_by all (lexeme name.token))
 
 -- `set NAME` or `set NAME := ..`
 abbrev pub set : List Lexeme → Option Set
-set all = if word_at (codes "set") all 0 then set_by all (name_at all 1) else None
+set all = if word_at (codes "set") all 0 then set_in_line all (read_name_at all 1) else None
 
 -- `unexport NAME`
 abbrev pub unexport : List Lexeme → Option Name
-unexport all = if length all == 2 then (if word_at (codes "unexport") all 0 then name_at all 1 else None) else None
+unexport all = if length all == 2 then (if word_at (codes "unexport") all 0 then read_name_at all 1 else None) else None
 
 -- a variable without a number
 abbrev pub assigned : Name → Bool → Bool → Option Expression → Option Assignment
 assigned name eager export None = None
 assigned name eager export (Some value) =
-    Some (record { name = name; number = no_number; value = value; eager = eager; export = export; private = is_private name; file_depth = 0 })
+    Some (record { name = name; number = no_number; value = value; eager = eager; export = export; private = has_low_name name; file_depth = 0 })
 
-abbrev pub assignment_by : List Lexeme → ℕ → Bool → Bool → Option Name → Option Assignment
-assignment_by all at eager export None = None
-assignment_by all at eager export (Some name) = if stands is_assign all (at + 1) then assigned name eager export (whole_expression all (at + 2)) else None
+abbrev pub assignment_in_line : List Lexeme → ℕ → Bool → Bool → Option Name → Option Assignment
+assignment_in_line all at eager export None = None
+assignment_in_line all at eager export (Some name) = if stands is_assign all (at + 1) then assigned name eager export (whole_expression all (at + 2)) else None
 
 -- NAME := E, from a place on
 unfoldable pub assignment_at : List Lexeme → ℕ → Bool → Bool → Option Assignment
-assignment_at all at eager export = assignment_by all at eager export (name_at all at)
+assignment_at all at eager export = assignment_in_line all at eager export (read_name_at all at)
 
 -- `export` or `eager` or nothing before it
 abbrev pub assignment : List Lexeme → Option Assignment
@@ -150,7 +150,7 @@ abbrev pub parameters_from : ℕ → List Lexeme → Option (List FunctionParame
 parameters_from at [] = None
 parameters_from at (l ∷ []) = if is_paren_close l.kind then Some ([], at + 1) else None
 parameters_from at (l ∷ m ∷ rest) =
-    if is_name l.kind then (if is_comma m.kind then (if closes rest then None else and_parameter l (parameters_from (at + 2) rest))
+    if is_name_kind l.kind then (if is_comma m.kind then (if closes rest then None else and_parameter l (parameters_from (at + 2) rest))
     else (if is_paren_close m.kind then Some (function_parameter l ∷ [], at + 2) else None))
     else (if is_paren_close l.kind then Some ([], at + 1) else None)
 
@@ -165,10 +165,10 @@ abbrev pub with_parameters : List Lexeme → Name → Option (List FunctionParam
 with_parameters all name None = None
 with_parameters all name (Some found) = if stands is_assign all found.1 then with_body name found.0 (whole_expression all (found.1 + 1)) else None
 
-abbrev pub function_by : List Lexeme → Option Name → Option FunctionDefinition
-function_by all None = None
-function_by all (Some name) = if stands is_paren_open all 1 then with_parameters all name (parameters all 2) else None
+abbrev pub function_in_line : List Lexeme → Option Name → Option FunctionDefinition
+function_in_line all None = None
+function_in_line all (Some name) = if stands is_paren_open all 1 then with_parameters all name (parameters all 2) else None
 
 -- NAME(A, ..) := E
 abbrev pub function : List Lexeme → Option FunctionDefinition
-function all = function_by all (name_at all 0)
+function all = function_in_line all (read_name_at all 0)

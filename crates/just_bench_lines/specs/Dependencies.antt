@@ -7,7 +7,7 @@ use Rattle.just_recipe.specs.Starred.{has_star}
 use Rattle.just_bench_expressions.specs.declared.expressions.Found.{Found}
 use Rattle.just_bench_expressions.specs.declared.lexer.Lexeme.{Lexeme}
 use Rattle.just_bench_expressions.specs.Expressions.{expression}
-use Rattle.just_bench_lines.specs.Parts.{parts}
+use Rattle.just_bench_lines.specs.Parts.{read_parts}
 use Rattle.just_bench_lines.specs.Path.{path}
 use Rattle.just_bench_lines.specs.Places.{stands, is_and, is_paren_close, is_paren_open, is_star}
 
@@ -22,7 +22,7 @@ argument all at = if stands is_star all at then argument_by true (expression fal
 
 -- the arguments up to a `)`, and its place
 abbrev pub arguments : List Lexeme → ℕ → Option (List DependencyArgument × ℕ)
-arguments = parts false is_paren_close argument
+arguments = read_parts false is_paren_close argument
 
 -- a star stands before the parentheses exactly where one of the arguments has one
 abbrev pub fits : Bool → List DependencyArgument → Bool
@@ -43,15 +43,15 @@ alone None = None
 alone (Some found) = Some (record { arguments = []; recipe = found.0 }, found.1)
 
 -- one whose path stands after the `(` at a place
-unfoldable pub given : List Lexeme → Bool → ℕ → Option (UnresolvedDependency × ℕ)
-given all star at = if stands is_paren_open all at then in_parentheses all star (path all (at + 1)) else None
+unfoldable pub parenthesized : List Lexeme → Bool → ℕ → Option (UnresolvedDependency × ℕ)
+parenthesized all star at = if stands is_paren_open all at then in_parentheses all star (path all (at + 1)) else None
 
 -- PATH, or `(PATH A ..)` with `*` or nothing before it
 unfoldable pub dependency : List Lexeme → ℕ → Option (UnresolvedDependency × ℕ)
 dependency all at =
-    if stands is_star all at then given all true (at + 1)
-    else (if stands is_paren_open all at then given all false at else alone (path all at))
+    if stands is_star all at then parenthesized all true (at + 1)
+    else (if stands is_paren_open all at then parenthesized all false at else alone (path all at))
 
 -- the dependencies up to `&&` or the end of the line, and the place of that
 abbrev pub dependency_list : List Lexeme → ℕ → Option (List UnresolvedDependency × ℕ)
-dependency_list = parts true is_and dependency
+dependency_list = read_parts true is_and dependency

@@ -13,8 +13,8 @@ use Rattle.just_bench_expressions.specs.declared.lexer.Lexeme.{Lexeme}
 use Rattle.just_bench_expressions.specs.Expressions.{expression}
 use Rattle.just_bench_lines.specs.declared.heading.Heading.{Heading}
 use Rattle.just_bench_lines.specs.Dependencies.{dependency_list}
-use Rattle.just_bench_lines.specs.Parts.{parts}
-use Rattle.just_bench_lines.specs.Places.{name_at, stands, is_at_sign, is_colon, is_equals, is_plus, is_star}
+use Rattle.just_bench_lines.specs.Parts.{read_parts}
+use Rattle.just_bench_lines.specs.Places.{read_name_at, stands, is_at_sign, is_colon, is_equals, is_plus, is_star}
 
 -- what is written before the name of a parameter
 abbrev pub mark : ParameterKind → List ℕ
@@ -52,14 +52,14 @@ with_default name kind None = None
 with_default name kind (Some found) = Some (made_of name kind (Some found.made), found.end)
 
 -- a parameter whose name stands at a place, and the place after it
-abbrev pub by_name : List Lexeme → ℕ → ParameterKind → Option Name → Option (Parameter × ℕ)
-by_name all at kind None = None
-by_name all at kind (Some name) =
+abbrev pub parameter_by_name : List Lexeme → ℕ → ParameterKind → Option Name → Option (Parameter × ℕ)
+parameter_by_name all at kind None = None
+parameter_by_name all at kind (Some name) =
     if stands is_equals all (at + 1) then with_default name kind (expression false all (at + 2))
     else Some (made_of name kind None, at + 1)
 
 unfoldable pub named_parameter : List Lexeme → ℕ → ParameterKind → Option (Parameter × ℕ)
-named_parameter all at kind = by_name all at kind (name_at all at)
+named_parameter all at kind = parameter_by_name all at kind (read_name_at all at)
 
 -- a parameter: its mark, its name and its default
 unfoldable pub parameter : List Lexeme → ℕ → Option (Parameter × ℕ)
@@ -70,7 +70,7 @@ parameter all at =
 
 -- the parameters up to a `:`, and its place
 abbrev pub parameters : List Lexeme → ℕ → Option (List Parameter × ℕ)
-parameters = parts false is_colon parameter
+parameters = read_parts false is_colon parameter
 
 -- those that run after it end the line, and there is one
 abbrev pub with_subsequents : List Lexeme → List UnresolvedDependency → Option (List UnresolvedDependency × ℕ) → Option (List UnresolvedDependency × List UnresolvedDependency)
@@ -96,13 +96,13 @@ with_parameters all quiet name (Some found) = with_dependencies quiet name found
 unfoldable pub after_name : List Lexeme → Bool → Name → ℕ → Option Heading
 after_name all quiet name at = with_parameters all quiet name (parameters all at)
 
--- a heading whose name stands at a place
+-- a heading_in_line whose name stands at a place
 abbrev pub heading_at : List Lexeme → Bool → ℕ → Option Name → Option Heading
 heading_at all quiet at None = None
 heading_at all quiet at (Some name) = after_name all quiet name (at + 1)
 
 -- `@` or nothing, a name, parameters, `:`, and dependencies
-unfoldable pub heading : List Lexeme → Option Heading
-heading all =
-    if stands is_at_sign all 0 then heading_at all (stands is_at_sign all 0) 1 (name_at all 1)
-    else heading_at all (stands is_at_sign all 0) 0 (name_at all 0)
+unfoldable pub heading_in_line : List Lexeme → Option Heading
+heading_in_line all =
+    if stands is_at_sign all 0 then heading_at all (stands is_at_sign all 0) 1 (read_name_at all 1)
+    else heading_at all (stands is_at_sign all 0) 0 (read_name_at all 0)

@@ -17,8 +17,8 @@ use Rattle.just_bench_lines.specs.declared.meaning.Statement.TheVariants as stat
 use Rattle.just_bench_lines.specs.Alias.{alias_line}
 use Rattle.just_bench_lines.specs.Attributes.{attribute}
 use Rattle.just_bench_lines.specs.Definitions as definitions
-use Rattle.just_bench_lines.specs.Heading.{heading}
-use Rattle.just_bench_lines.specs.Places.{adjoins, literal_at, name_at, stands, word_at, is_assign, is_question}
+use Rattle.just_bench_lines.specs.Heading.{heading_in_line}
+use Rattle.just_bench_lines.specs.Places.{adjoins, literal_at, read_name_at, stands, word_at, is_assign, is_question}
 
 -- `?` stands right after the first word
 abbrev pub is_optional : List Lexeme → Bool
@@ -44,36 +44,36 @@ abbrev pub after_path : ℕ → Option StringLiteral → ℕ
 after_path at None = at
 after_path at (Some path) = at + 1
 
-unfoldable pub module_of : List Lexeme → Name → Bool → ℕ → Option Declaration
-module_of all name optional at =
+unfoldable pub declared_module : List Lexeme → Name → Bool → ℕ → Option Declaration
+declared_module all name optional at =
     if after_path at (literal_at all at) == length all then Some (record { name = name; path = literal_at all at; optional = optional })
     else None
 
 -- `mod NAME`, or with a path or `?`
-abbrev pub module_by : List Lexeme → Bool → ℕ → Option Name → Option Declaration
-module_by all optional at None = None
-module_by all optional at (Some name) = module_of all name optional (at + 1)
+abbrev pub module_in_line : List Lexeme → Bool → ℕ → Option Name → Option Declaration
+module_in_line all optional at None = None
+module_in_line all optional at (Some name) = declared_module all name optional (at + 1)
 
 abbrev pub module_line : List Lexeme → Option Declaration
 module_line all =
-    if word_at (codes "mod") all 0 then module_by all (is_optional all) (after_word (is_optional all)) (name_at all (after_word (is_optional all)))
+    if word_at (codes "mod") all 0 then module_in_line all (is_optional all) (after_word (is_optional all)) (read_name_at all (after_word (is_optional all)))
     else None
 
 -- the first of several that is there
-abbrev pub or_else : {A : Type 0} → Option A → Option A → Option A
-or_else None other = other
-or_else (Some it) other = Some it
+abbrev pub first_there : {A : Type 0} → Option A → Option A → Option A
+first_there None other = other
+first_there (Some it) other = Some it
 
 -- a variable or a function
 abbrev pub definition : List Lexeme → Option Statement
-definition all = or_else (option_map statements.Assigns (definitions.assignment all)) (option_map statements.Defines (definitions.function all))
+definition all = first_there (option_map statements.Assigns (definitions.assignment all)) (option_map statements.Defines (definitions.function all))
 
 -- an item that takes no attributes
 unfoldable pub statement : List Lexeme → Option Statement
 statement all =
-    or_else (import all)
-    (or_else (option_map statements.Sets (definitions.set all))
-    (or_else (option_map statements.Unexports (definitions.unexport all))
+    first_there (import all)
+    (first_there (option_map statements.Sets (definitions.set all))
+    (first_there (option_map statements.Unexports (definitions.unexport all))
     (definition all)))
 
 abbrev pub or_bad : Option Meaning → Meaning
@@ -83,11 +83,11 @@ or_bad (Some it) = it
 -- a line of these lexemes
 unfoldable pub sorted : List Lexeme → Meaning
 sorted all =
-    or_bad (or_else (option_map meaning.Declares (module_line all))
-    (or_else (option_map meaning.Marks (attribute all))
-    (or_else (option_map meaning.Aliases (alias_line all))
-    (or_else (option_map meaning.States (statement all))
-    (option_map meaning.Begins (heading all))))))
+    or_bad (first_there (option_map meaning.Declares (module_line all))
+    (first_there (option_map meaning.Marks (attribute all))
+    (first_there (option_map meaning.Aliases (alias_line all))
+    (first_there (option_map meaning.States (statement all))
+    (option_map meaning.Begins (heading_in_line all))))))
 
 -- the place after the bracket that an attribute begins with, or after that of what a setting is set to
 abbrev pub after_bracket : List Lexeme → ℕ
@@ -117,13 +117,13 @@ or_plain None = plain meaning.Bad
 or_plain (Some it) = it
 
 -- a line by its first byte
-abbrev pub said_from : List ℕ → List ℕ → TextLine → List ℕ → Said
-said_from path text line [] = plain meaning.Ignored
-said_from path text line (b ∷ rest) =
+abbrev pub said_by_front : List ℕ → List ℕ → TextLine → List ℕ → Said
+said_by_front path text line [] = plain meaning.Ignored
+said_by_front path text line (b ∷ rest) =
     if b == 35 then plain meaning.Ignored
     else (if is_blank b then plain meaning.Indented
     else or_plain (sharp path text line))
 
 -- what a line says
-unfoldable pub said : List ℕ → List ℕ → TextLine → Said
-said path text line = said_from path text line line.text
+unfoldable pub said_by_line : List ℕ → List ℕ → TextLine → Said
+said_by_line path text line = said_by_front path text line line.text

@@ -4,7 +4,7 @@ use Rattle.std.specs.List.{slice_get}
 use Rattle.just_names.specs.declared.name.Name.{Name}
 use Rattle.just_names.specs.declared.name.Namepath.{Namepath}
 use Rattle.just_bench_expressions.specs.declared.lexer.Lexeme.{Lexeme}
-use Rattle.just_bench_lines.specs.Places.{adjoins, is_colon, name_at, name_there}
+use Rattle.just_bench_lines.specs.Places.{adjoins, is_colon, read_name_at, name_there}
 
 -- `::`: two colons, the second right after the first
 abbrev pub separates : Option Lexeme → Option Lexeme → Bool
@@ -17,7 +17,7 @@ separated all at = separates (slice_get all at) (slice_get all (at + 1))
 
 -- the name after `::` at a place
 abbrev pub joined_at : List Lexeme → ℕ → Option Name
-joined_at all at = if separated all at then name_at all (at + 2) else None
+joined_at all at = if separated all at then read_name_at all (at + 2) else None
 
 -- the names at the front, each after `::`
 abbrev pub and_names : Option Name → List Name → List Name
@@ -34,14 +34,14 @@ joined_names (c ∷ d ∷ l ∷ rest) = if separates (Some c) (Some d) then and_
 abbrev pub before_path : Name → Namepath → Namepath
 before_path name path = record { front = name ∷ path.front; last = path.last }
 
-abbrev pub path_of : Name → List Name → Namepath
-path_of name [] = record { front = []; last = name }
-path_of name (next ∷ more) = before_path name (path_of next more)
+abbrev pub path_of_names : Name → List Name → Namepath
+path_of_names name [] = record { front = []; last = name }
+path_of_names name (next ∷ more) = before_path name (path_of_names next more)
 
 -- a name and those that are joined to it, and the place after them: each takes three lexemes
 abbrev pub path_from : ℕ → List Name → Option Name → Option (Namepath × ℕ)
 path_from at more None = None
-path_from at more (Some name) = Some (path_of name more, at + 1 + 3 * length more)
+path_from at more (Some name) = Some (path_of_names name more, at + 1 + 3 * length more)
 
 unfoldable pub path : List Lexeme → ℕ → Option (Namepath × ℕ)
-path all at = path_from at (joined_names (drop (at + 1) all)) (name_at all at)
+path all at = path_from at (joined_names (drop (at + 1) all)) (read_name_at all at)

@@ -12,9 +12,9 @@ use Rattle.just_bench_expressions.specs.Lexemes.{between_quotes}
 use Rattle.just_ast_expressions.specs.declared.string_literal.StringLiteral.{StringLiteral}
 
 -- an identifier, and a quoted text
-abbrev pub is_name : Kind → Bool
-is_name kind.Name = true
-is_name _ = false
+abbrev pub is_name_kind : Kind → Bool
+is_name_kind kind.Name = true
+is_name_kind _ = false
 
 abbrev pub is_quoted : Kind → Bool
 is_quoted kind.Quoted = true
@@ -75,7 +75,7 @@ is_bracket_close _ = false
 
 -- whether the second kind is the first
 abbrev pub is_mark : Kind → Kind → Bool
-is_mark kind.Name = is_name
+is_mark kind.Name = is_name_kind
 is_mark kind.Quoted = is_quoted
 is_mark kind.Colon = is_colon
 is_mark kind.Assign = is_assign
@@ -106,10 +106,10 @@ stands is all at = stands_there is (slice_get all at)
 -- the name at a place
 abbrev pub name_there : Option Lexeme → Option Name
 name_there None = None
-name_there (Some l) = if is_name l.kind then Some (record { token = l.token }) else None
+name_there (Some l) = if is_name_kind l.kind then Some (record { token = l.token }) else None
 
-abbrev pub name_at : List Lexeme → ℕ → Option Name
-name_at all at = name_there (slice_get all at)
+abbrev pub read_name_at : List Lexeme → ℕ → Option Name
+read_name_at all at = name_there (slice_get all at)
 
 -- the quoted text at a place
 abbrev pub quoted_there : Option Lexeme → Option Place
@@ -125,7 +125,7 @@ is_word word None = false
 is_word word (Some name) = bytes_eq (lexeme name.token) word
 
 abbrev pub word_at : List ℕ → List Lexeme → ℕ → Bool
-word_at word all at = is_word word (name_at all at)
+word_at word all at = is_word word (read_name_at all at)
 
 -- a quoted text
 abbrev pub literal : Place → StringLiteral

@@ -64,7 +64,7 @@ fn closes_at<'src>(lexemes: &[Lexeme<'src>], at: usize) -> bool
 
 /// The attribute that this word is alone.
 pub fn bare<'src>(word: &str) -> Option<Attribute<'src>>
-    ensures { result ≡ spec.bare word.now }
+    ensures { result ≡ spec.word_alone word.now }
 {
     match word {
         "default" => Some(Attribute::Default),
@@ -290,12 +290,12 @@ fn made_arg<'src>(
 }
 
 // The attribute `group`, whose text stands at a place.
-#[tactic(auto, unfolding(crate::specs::Attributes::group))]
+#[tactic(auto, unfolding(crate::specs::Attributes::group_in_line))]
 fn read_group<'src>(
     spelling: &Spelling<'src>,
     at: usize,
 ) -> Result<Option<Attribute<'src>>, AllocError>
-    ensures { IfOk result (λ found. found ≡ spec.group spelling.now at) }
+    ensures { IfOk result (λ found. found ≡ spec.group_in_line spelling.now at) }
 {
     let Some(text) = literal_at(spelling, at)? else {
         return Ok(None);

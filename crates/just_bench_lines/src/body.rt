@@ -138,7 +138,7 @@ fn text_to<'src>(
     requires line { IsLineOf text.now line.now }
     requires starts { IsCharBoundary text.now (line.now.offset + start) }
     requires ends { spec.EndsAt text.now line.now start end }
-    ensures { result ≡ spec.text_at path.now text.now line.now start end }
+    ensures { result ≡ spec.text_part_at path.now text.now line.now start end }
 {
     Part {
         fragment: text_part(path, text, line, start, end),

@@ -14,7 +14,7 @@ use std::alloc::{AllocError, Global};
 
 /// Whether a name begins with `_`.
 pub fn is_private<'src>(name: &Name<'src>) -> bool
-    ensures { result ≡ spec.is_private name.now }
+    ensures { result ≡ spec.has_low_name name.now }
 {
     name.lexeme().starts_with('_')
 }

@@ -72,13 +72,13 @@ fn fits<'src>(dependency: &UnresolvedDependency<'src>, star: bool) -> bool
 }
 
 // The dependency whose `(` stands at a place, and the place after its `)`.
-#[tactic(auto, unfolding(crate::specs::Dependencies::given))]
+#[tactic(auto, unfolding(crate::specs::Dependencies::parenthesized))]
 fn read_given<'src>(
     spelling: &Spelling<'src>,
     star: bool,
     at: usize,
 ) -> Result<Option<(UnresolvedDependency<'src>, usize)>, AllocError>
-    ensures is { IfOk result (λ found. found ≡ spec.given spelling.now star at) }
+    ensures is { IfOk result (λ found. found ≡ spec.parenthesized spelling.now star at) }
     ensures further { IfOk result (λ found. IfSome found (λ f. GoesOn spelling.now at f.1)) }
 {
     if !mark_at(spelling.as_slice(), at, Kind::ParenOpen) {

@@ -214,9 +214,9 @@ fn after_name<'src>(
 
 /// The heading that the lexemes of a line are: `@` or nothing, a name, parameters, `:`, dependencies, and `&&` before
 /// those that run after it, where there are such. The error is want of memory.
-#[tactic(auto, unfolding(crate::specs::Heading::heading))]
+#[tactic(auto, unfolding(crate::specs::Heading::heading_in_line))]
 pub fn read_heading<'src>(spelling: &Spelling<'src>) -> Result<Option<Heading<'src>>, AllocError>
-    ensures { IfOk result (λ found. found ≡ spec.heading spelling.now) }
+    ensures { IfOk result (λ found. found ≡ spec.heading_in_line spelling.now) }
 {
     let lexemes = spelling.as_slice();
     let quiet = mark_at(lexemes, 0, Kind::At);

@@ -21,7 +21,7 @@ ghost use Rattle.just_bench_lines.specs.Alias.{alias_line};
 ghost use Rattle.just_bench_lines.specs.Attributes.{attribute};
 ghost use Rattle.just_bench_lines.specs.Body.{body_line};
 ghost use Rattle.just_bench_lines.specs.Definitions as definitions;
-ghost use Rattle.just_bench_lines.specs.Heading.{heading};
+ghost use Rattle.just_bench_lines.specs.Heading.{heading_in_line};
 ghost use Rattle.just_bench_lines.specs.Meaning.{import, module_line, sorted, statement};
 ghost use Rattle.just_bench_lines.specs.Pieces.{AreFrom};
 
@@ -51,7 +51,7 @@ pub fn lines_told_apart()
     ensures attributes { (all : List Lexeme) (m : Mark) → attribute all ≡ Some m → sorted all ≡ meaning.Marks m }
     ensures aliases { (all : List Lexeme) (a : AliasLine) → alias_line all ≡ Some a → sorted all ≡ meaning.Aliases a }
     ensures statements { (all : List Lexeme) (s : Statement) → statement all ≡ Some s → sorted all ≡ meaning.States s }
-    ensures headings { (all : List Lexeme) (h : Heading) → heading all ≡ Some h → sorted all ≡ meaning.Begins h }
+    ensures headings { (all : List Lexeme) (h : Heading) → heading_in_line all ≡ Some h → sorted all ≡ meaning.Begins h }
 {}
 
 /// No item without attributes is of two kinds: what reads as an import, as a setting, as a variable that is not

@@ -114,14 +114,14 @@ fn read_import<'src>(spelling: &Spelling<'src>) -> Result<Option<Statement<'src>
 }
 
 // The module of this name, which is the rest of the line from a place on.
-#[tactic(auto, unfolding(crate::specs::Meaning::module_of))]
+#[tactic(auto, unfolding(crate::specs::Meaning::declared_module))]
 fn module_of<'src>(
     spelling: &Spelling<'src>,
     name: Name<'src>,
     optional: bool,
     at: usize,
 ) -> Result<Option<Declaration<'src>>, AllocError>
-    ensures { IfOk result (λ found. found ≡ spec.module_of spelling.now name.entry optional at) }
+    ensures { IfOk result (λ found. found ≡ spec.declared_module spelling.now name.entry optional at) }
 {
     let size = spelling.as_slice().len();
     let path = literal_at(spelling, at)?;
@@ -270,7 +270,7 @@ fn plain<'src>(alloc: Global, meaning: Meaning<'src>) -> Said<'src>
 }
 
 /// What a line of a text says. The error is want of memory.
-#[tactic(auto, unfolding(crate::specs::Meaning::said))]
+#[tactic(auto, unfolding(crate::specs::Meaning::said_by_line))]
 pub fn read_line<'src>(
     alloc: Global,
     path: &'src str,
@@ -278,7 +278,7 @@ pub fn read_line<'src>(
     line: &TextLine<'src>,
 ) -> Result<Said<'src>, AllocError>
     requires { IsLineOf text.now line.now }
-    ensures { IfOk result (λ found. found ≡ spec.said path.now text.now line.now) }
+    ensures { IfOk result (λ found. found ≡ spec.said_by_line path.now text.now line.now) }
 {
     match line.text.as_str().as_bytes().first() {
         None | Some(b'#') => Ok(plain(alloc, Meaning::Ignored)),

@@ -24,7 +24,7 @@ pub fn adjoins<'src>(first: &Lexeme<'src>, second: &Lexeme<'src>) -> bool
 
 /// The name at a place.
 pub fn name_at<'src>(lexemes: &[Lexeme<'src>], at: usize) -> Option<Name<'src>>
-    ensures is { result ≡ spec.name_at lexemes.now at }
+    ensures is { result ≡ spec.read_name_at lexemes.now at }
     ensures within { IfSome result (λ _. at < length lexemes.now) }
 {
     let lexeme = lexemes.get(at)?;

@@ -3,7 +3,7 @@ use Rattle.std.proofs.Common.{inl, inr, ◌⊎◌, zero, suc, ◌≡◌, ℕ, �
 use Rattle.std.proofs.lemmas.Bool.{cases_lt}
 use Rattle.just_bench_expressions.specs.declared.lexer.Kind.{Kind}
 use Rattle.just_bench_expressions.specs.declared.lexer.Lexeme.{Lexeme}
-use Rattle.just_bench_lines.specs.Parts.{parts}
+use Rattle.just_bench_lines.specs.Parts.{read_parts}
 use Rattle.just_bench_lines.specs.Places.{GoesOn, stands}
 use Rattle.just_bench_lines.proofs.Parts as lines
 use Rattle.just_bench_stops.specs.declared.halt.Halt.TheVariants as halt
@@ -22,7 +22,7 @@ Alike stop part all at None (Err e) = Unit {0}
 Alike stop part all at (Some found) (Ok end) = (found.1 ≡ end) × GoesOn all at end
 Alike stop part all at (Some found) (Err e) = GoesOn all at found.1 × Stuck stop part all found.1
 
--- parts and their end
+-- read_parts and their end
 abbrev pub Both : {A : Type 0} → Bool → List Lexeme → ℕ → Option (List A × ℕ) → Result ℕ ℕ → Type 0
 Both may_end all start None (Ok end) = ⊥
 Both may_end all start None (Err e) = Unit {0}
@@ -32,7 +32,7 @@ Both may_end all start (Some found) (Err e) = ⊥
 module _ {A : Type 0} (may_end : Bool) (stop : Kind → Bool) (part : List Lexeme → ℕ → Option (A × ℕ)) (end : List Lexeme → ℕ → Result ℕ ℕ) (all : List Lexeme)
     (alike : (at : ℕ) → at < length all → stands stop all at ≡ false → Alike stop part all at (part all at) (end all at)) (start : ℕ) where
   abbrev whole : Option (List A × ℕ)
-  whole = parts may_end stop part all start
+  whole = read_parts may_end stop part all start
 
   abbrev whole_end : Result ℕ ℕ
   whole_end = parts_end may_end stop end all start
@@ -79,20 +79,20 @@ module _ {A : Type 0} (may_end : Bool) (stop : Kind → Bool) (part : List Lexem
 -- at the end of the line
 past : {A : Type 0} (may_end : Bool) (stop : Kind → Bool) (part : List Lexeme → ℕ → Option (A × ℕ)) (end : List Lexeme → ℕ → Result ℕ ℕ) (all : List Lexeme)
     (alike : (at : ℕ) → at < length all → stands stop all at ≡ false → Alike stop part all at (part all at) (end all at)) (start at : ℕ) (made : List A)
-    → length all ≤ at → lines.Parts may_end stop part all start made at → ends.Walked may_end stop end all start at → Both may_end all start (parts may_end stop part all start) (parts_end may_end stop end all start)
+    → length all ≤ at → lines.Parts may_end stop part all start made at → ends.Walked may_end stop end all start at → Both may_end all start (read_parts may_end stop part all start) (parts_end may_end stop end all start)
 past true stop part end all alike start at made out so_far gone =
-    some_both true stop part end all alike start (parts true stop part all start) (parts_end true stop end all start) made at gone.onward (inr refl) (lines.parts_past stop part all start made at so_far out) (ends.parts_past true stop end all start at gone out)
+    some_both true stop part end all alike start (read_parts true stop part all start) (parts_end true stop end all start) made at gone.onward (inr refl) (lines.parts_past stop part all start made at so_far out) (ends.parts_past true stop end all start at gone out)
 past false stop part end all alike start at made out so_far gone =
-    none_both false stop part end all alike start (parts false stop part all start) (parts_end false stop end all start) at (lines.parts_cut stop part all start made at so_far out) (ends.parts_past false stop end all start at gone out)
+    none_both false stop part end all alike start (read_parts false stop part all start) (parts_end false stop end all start) at (lines.parts_cut stop part all start made at so_far out) (ends.parts_past false stop end all start at gone out)
 
 module _ {A : Type 0} (may_end : Bool) (stop : Kind → Bool) (part : List Lexeme → ℕ → Option (A × ℕ)) (end : List Lexeme → ℕ → Result ℕ ℕ) (all : List Lexeme)
     (alike : (at : ℕ) → at < length all → stands stop all at ≡ false → Alike stop part all at (part all at) (end all at)) (start : ℕ) where
-  walk : (n at : ℕ) (made : List A) → length all ≤ at + n → lines.Parts may_end stop part all start made at → ends.Walked may_end stop end all start at → Both may_end all start (parts may_end stop part all start) (parts_end may_end stop end all start)
+  walk : (n at : ℕ) (made : List A) → length all ≤ at + n → lines.Parts may_end stop part all start made at → ends.Walked may_end stop end all start at → Both may_end all start (read_parts may_end stop part all start) (parts_end may_end stop end all start)
   walk zero at made h so_far gone = past may_end stop part end all alike start at made (omega (arith, h)) so_far gone
   walk (suc n) at made h so_far gone = elim (cases_lt at (length all)) [
     | inl within ↦ at_stop may_end stop part end all alike start at made (stands stop all at) within so_far gone refl (λ next more less read on. walk n next more (omega (arith, h, less)) read on)
     | inr out ↦ past may_end stop part end all alike start at made (omega (arith, out)) so_far gone
   ]
 
-  pub parts_both : Both may_end all start (parts may_end stop part all start) (parts_end may_end stop end all start)
+  pub parts_both : Both may_end all start (read_parts may_end stop part all start) (parts_end may_end stop end all start)
   parts_both = walk (length all) start [] (omega arith) (lines.parts_start may_end stop part all start [] refl) (ends.parts_start may_end stop end all start)

@@ -24,12 +24,12 @@ use Rattle.just_bench_lines.specs.declared.attributes.Mark.{Mark}
 use Rattle.just_bench_lines.specs.declared.attributes.Properties.{Properties}
 use Rattle.just_bench_lines.specs.Attributes as lines
 use Rattle.just_bench_lines.specs.Definitions.{after_part}
-use Rattle.just_bench_lines.specs.Places.{is_bracket_close, is_bracket_open, is_equals, is_paren_close, is_paren_open, is_quoted, literal, literal_at, name_at, quoted_there, stands, stands_there}
+use Rattle.just_bench_lines.specs.Places.{is_bracket_close, is_bracket_open, is_equals, is_paren_close, is_paren_open, is_quoted, literal, literal_at, read_name_at, quoted_there, stands, stands_there}
 use Rattle.just_bench_lines.proofs.Props.{Props, props_end, props_fail, props_start, props_step, props_stuck}
 use Rattle.just_bench_stops.specs.declared.attributes.Seen.{Seen}
 use Rattle.just_bench_stops.specs.declared.halt.Halt.TheVariants as halt
 use Rattle.just_bench_stops.specs.Attributes as ends
-use Rattle.just_bench_stops.specs.Marks.{goes_on, line_end, mark_end}
+use Rattle.just_bench_stops.specs.Marks.{goes_on_from, line_end, mark_end}
 use Rattle.just_bench_stops.specs.Parts.{after_part_end}
 use Rattle.just_bench_stops.proofs.Ends.{chosen, quoted}
 use Rattle.just_bench_stops.proofs.Functions.{Follows, follows, next_within}
@@ -40,7 +40,7 @@ line_by : (b : Bool) (at : ℕ) → is_ok {T = ℕ} {E = ℕ} (if b then Ok at e
 line_by true at = refl
 line_by false at = refl
 
-tested : (b c : Bool) (at end : ℕ) (more : ℕ → Result ℕ ℕ) → is_ok (more end) ≡ c → is_ok (goes_on (if b then Ok end else Err at) more) ≡ (if b then c else false)
+tested : (b c : Bool) (at end : ℕ) (more : ℕ → Result ℕ ℕ) → is_ok (more end) ≡ c → is_ok (goes_on_from (if b then Ok end else Err at) more) ≡ (if b then c else false)
 tested true c at end more h = h
 tested false c at end more h = refl
 
@@ -58,18 +58,18 @@ marked_is : (name : Name) (o : Option (Attribute Expression)) → is_some (lines
 marked_is name None = refl
 marked_is name (Some it) = refl
 
-groups : (all : List Lexeme) → is_some (lines.group all 3) ≡ is_ok (goes_on (mark_end is_quoted all 3) (ends.paren_end all))
-unfolding lines.group
-groups all = quoted all 3 (lines.group_of all 3) (ends.paren_end all) refl (λ text. some_by (lines.closes_at all 4) (attributes.Group text) ∙ sym (paren_is all 4))
+groups : (all : List Lexeme) → is_some (lines.group_in_line all 3) ≡ is_ok (goes_on_from (mark_end is_quoted all 3) (ends.paren_end all))
+unfolding lines.group_in_line
+groups all = quoted all 3 (lines.group_attribute all 3) (ends.paren_end all) refl (λ text. some_by (lines.closes_at all 4) (attributes.Group text) ∙ sym (paren_is all 4))
 
-doc_by : (all : List Lexeme) (found : Option Found) (end : Result ℕ ℕ) → EndsWith found end → is_some (lines.doc_of all found) ≡ is_ok (goes_on end (ends.paren_end all))
+doc_by : (all : List Lexeme) (found : Option Found) (end : Result ℕ ℕ) → EndsWith found end → is_some (lines.doc_attribute all found) ≡ is_ok (goes_on_from end (ends.paren_end all))
 doc_by all None (Ok end) same = absurd same
 doc_by all None (Err at) same = refl
 doc_by all (Some found) (Err at) same = absurd same
 doc_by all (Some found) (Ok end) same =
-    subst (λ n. is_some (lines.doc_of all (Some found)) ≡ is_ok (ends.paren_end all n)) same (some_by (lines.closes_at all found.end) (attributes.Doc (Some found.made)) ∙ sym (paren_is all found.end))
+    subst (λ n. is_some (lines.doc_attribute all (Some found)) ≡ is_ok (ends.paren_end all n)) same (some_by (lines.closes_at all found.end) (attributes.Doc (Some found.made)) ∙ sym (paren_is all found.end))
 
-docs : (all : List Lexeme) → is_some (lines.doc all 3) ≡ is_ok (goes_on (expression_end true all 3) (ends.paren_end all))
+docs : (all : List Lexeme) → is_some (lines.doc all 3) ≡ is_ok (goes_on_from (expression_end true all 3) (ends.paren_end all))
 unfolding lines.doc
 docs all = doc_by all (expression true all 3) (expression_end true all 3) (expression_agrees true all 3)
 
@@ -101,7 +101,7 @@ quoted_value : (o : Option Lexeme) (at : ℕ) → Value (option_map literal (quo
 quoted_value None at = tt
 quoted_value (Some l) at = quoted_by (is_quoted l.kind) l.token at
 
-value_by : (b : Bool) (all : List Lexeme) (at : ℕ) → Value (if b then literal_at all (at + 1) else None) (goes_on (if b then Ok (at + 1) else Err at) (mark_end is_quoted all)) (at + 1 + 1)
+value_by : (b : Bool) (all : List Lexeme) (at : ℕ) → Value (if b then literal_at all (at + 1) else None) (goes_on_from (if b then Ok (at + 1) else Err at) (mark_end is_quoted all)) (at + 1 + 1)
 value_by true all at = quoted_value (slice_get all (at + 1)) (at + 1)
 value_by false all at = tt
 
@@ -120,7 +120,7 @@ letter_of None at = tt
 letter_of (Some c) at = refl
 
 letter_by : (b : Bool) (all : List Lexeme) (at : ℕ)
-    → Letter (lines.char_of (if b then literal_at all (at + 1) else None)) (goes_on (if b then Ok (at + 1) else Err at) (λ at. if is_some (lines.char_of (literal_at all at)) then Ok (at + 1) else Err at)) (at + 1 + 1)
+    → Letter (lines.char_of (if b then literal_at all (at + 1) else None)) (goes_on_from (if b then Ok (at + 1) else Err at) (λ at. if is_some (lines.char_of (literal_at all at)) then Ok (at + 1) else Err at)) (at + 1 + 1)
 letter_by true all at = letter_of (lines.char_of (literal_at all (at + 1))) (at + 1)
 letter_by false all at = tt
 
@@ -162,14 +162,14 @@ flag_agree at p s same =
     (refl, record { long = same.long; short = same.short; flag = refl; pattern = same.pattern }, omega arith)
 
 found_agree : (at : ℕ) (key : Name) (p : Properties) (s : Seen) (found : Option Found) (end : Result ℕ ℕ) → Same p s → EndsWith found end → IfSome found (λ f. at + 1 + 1 + 1 ≤ f.end)
-    → Agree at (lines.pattern_by key p found) (ends.with_seen (record s { pattern = true }) end)
+    → Agree at (lines.read_pattern key p found) (ends.with_seen (record s { pattern = true }) end)
 found_agree at key p s None (Ok end) same e from = absurd e
 found_agree at key p s None (Err stop) same e from = tt
 found_agree at key p s (Some found) (Err stop) same e from = absurd e
 found_agree at key p s (Some found) (Ok end) same e from = (e, record { long = same.long; short = same.short; flag = same.flag; pattern = refl }, omega (arith, from))
 
 equals_agree : (b : Bool) (all : List Lexeme) (at : ℕ) (key : Name) (p : Properties) (s : Seen) → Same p s
-    → Agree at (if b then lines.pattern_by key p (expression true all (at + 1 + 1)) else None) (ends.with_seen (record s { pattern = true }) (goes_on (if b then Ok (at + 1 + 1) else Err (at + 1)) (expression_end true all)))
+    → Agree at (if b then lines.read_pattern key p (expression true all (at + 1 + 1)) else None) (ends.with_seen (record s { pattern = true }) (goes_on_from (if b then Ok (at + 1 + 1) else Err (at + 1)) (expression_end true all)))
 equals_agree true all at key p s same =
     found_agree at key p s (expression true all (at + 1 + 1)) (expression_end true all (at + 1 + 1)) same (expression_agrees true all (at + 1 + 1)) (expression_from true all (at + 1 + 1))
 equals_agree false all at key p s same = tt
@@ -177,7 +177,7 @@ equals_agree false all at key p s same = tt
 pattern_agree : (all : List Lexeme) (at : ℕ) (key : Name) (p : Properties) (s : Seen) → Same p s
     → Agree at (lines.with_pattern all key (at + 1) p) (if not s.pattern then ends.with_seen (record s { pattern = true }) (ends.pattern_end all (at + 1)) else Err at)
 pattern_agree all at key p s same =
-    unless s.pattern (is_some p.pattern) at (if stands is_equals all (at + 1) then lines.pattern_by key p (expression true all (at + 1 + 1)) else None)
+    unless s.pattern (is_some p.pattern) at (if stands is_equals all (at + 1) then lines.read_pattern key p (expression true all (at + 1 + 1)) else None)
     (ends.with_seen (record s { pattern = true }) (ends.pattern_end all (at + 1))) same.pattern (equals_agree (stands is_equals all (at + 1)) all at key p s same)
 
 -- by its word, of which it is one
@@ -236,9 +236,9 @@ key_agree all at p s (Some key) same =
     (short_agree at p s (lines.char_of (lines.value_at all (at + 1))) (ends.letter_end all (at + 1)) same (letters all (at + 1)))
     (flag_agree at p s same) (pattern_agree all at key p s same)
 
-property_agree : (all : List Lexeme) (at : ℕ) (p : Properties) (s : Seen) → Same p s → Agree at (lines.with_property all at p) (ends.property_end_of all at s (name_at all at))
+property_agree : (all : List Lexeme) (at : ℕ) (p : Properties) (s : Seen) → Same p s → Agree at (lines.with_property all at p) (ends.property_end_of all at s (read_name_at all at))
 unfolding lines.with_property
-property_agree all at p s same = key_agree all at p s (name_at all at) same
+property_agree all at p s same = key_agree all at p s (read_name_at all at) same
 
 -- what stands in the parentheses goes up to the `)`
 abbrev Closes : List Lexeme → Option (Properties × ℕ) → Result ℕ ℕ → Type 0
@@ -260,7 +260,7 @@ module _ (all : List Lexeme) (start : ℕ) where
   some_both : (o : Option (Properties × ℕ)) (r : Result ℕ ℕ) (found : Properties × ℕ) (at : ℕ) → Some found ≡ o → Ok at ≡ r → found.1 ≡ at → stands is_paren_close all at ≡ true → Closes all o r
   some_both o r found at some is same close = subst (λ q. Closes all q r) some (subst (Closes all (Some found)) is (same, close))
 
-  with_next : (at : ℕ) (s : Seen) (r : Result (ℕ × Seen) ℕ) → r ≡ ends.property_end_of all at s (name_at all at) → ends.with_after all r ≡ ends.property_end all at s
+  with_next : (at : ℕ) (s : Seen) (r : Result (ℕ × Seen) ℕ) → r ≡ ends.property_end_of all at s (read_name_at all at) → ends.with_after all r ≡ ends.property_end all at s
   unfolding ends.property_end
   with_next at s r is = ap (ends.with_after all) is
 
@@ -268,7 +268,7 @@ module _ (all : List Lexeme) (start : ℕ) where
   More at = (next : ℕ) (p : Properties) (s : Seen) → at < next → Props all whole next p → Said all start next s → Same p s → Closes all whole end
 
   behind : (at : ℕ) (p q : Properties) (s t : Seen) (stop : ℕ) (next : Option ℕ) → at < length all → Props all whole at p → Said all start at s → stands is_paren_close all at ≡ false
-      → Some (q, stop) ≡ lines.with_property all at p → Ok (stop, t) ≡ ends.property_end_of all at s (name_at all at) → Same q t → at < stop → next ≡ after_part all stop → Follows next (after_part_end all stop) → More at → Closes all whole end
+      → Some (q, stop) ≡ lines.with_property all at p → Ok (stop, t) ≡ ends.property_end_of all at s (read_name_at all at) → Same q t → at < stop → next ≡ after_part all stop → Follows next (after_part_end all stop) → More at → Closes all whole end
   behind at p q s t stop None within so_far said sharp is gone same onward goes follows more =
       none_both whole end follows.0 (props_stuck all whole at p q stop so_far sharp is goes)
       (properties_fail all start at (halt.At follows.0) s s said within sharp (ap (ends.with_seen t) follows.1 ∙ with_next at s (Ok (stop, t)) gone))
@@ -278,20 +278,20 @@ module _ (all : List Lexeme) (start : ℕ) where
       (properties_push all start at next s t said within sharp (ap (ends.with_seen t) follows ∙ with_next at s (Ok (stop, t)) gone) (record { onward = omega (arith, onward, w.0); within = w.1 })) same
 
   property_both : (at : ℕ) (p : Properties) (s : Seen) (o : Option (Properties × ℕ)) (r : Result (ℕ × Seen) ℕ) → at < length all → Props all whole at p → Said all start at s → stands is_paren_close all at ≡ false
-      → o ≡ lines.with_property all at p → r ≡ ends.property_end_of all at s (name_at all at) → Agree at o r → More at → Closes all whole end
+      → o ≡ lines.with_property all at p → r ≡ ends.property_end_of all at s (read_name_at all at) → Agree at o r → More at → Closes all whole end
   property_both at p s None (Ok found) within so_far said sharp is gone agree more = absurd agree
   property_both at p s None (Err stop) within so_far said sharp is gone agree more =
       none_both whole end stop (props_fail all whole at p so_far sharp is) (properties_fail all start at (halt.At stop) s s said within sharp (with_next at s (Err stop) gone))
   property_both at p s (Some found) (Err stop) within so_far said sharp is gone agree more = absurd agree
   property_both at p s (Some found) (Ok stop) within so_far said sharp is gone agree more =
-      behind at p found.0 s stop.1 found.1 (after_part all found.1) within so_far said sharp is (subst (λ n. Ok (n, stop.1) ≡ ends.property_end_of all at s (name_at all at)) (sym agree.0) gone)
+      behind at p found.0 s stop.1 found.1 (after_part all found.1) within so_far said sharp is (subst (λ n. Ok (n, stop.1) ≡ ends.property_end_of all at s (read_name_at all at)) (sym agree.0) gone)
       agree.1 agree.2 refl (follows all found.1) more
 
   at_close : (at : ℕ) (p : Properties) (s : Seen) (b : Bool) → at < length all → Props all whole at p → Said all start at s → Same p s → stands is_paren_close all at ≡ b → More at → Closes all whole end
   at_close at p s true within so_far said same close more =
       some_both whole end (p, at) at (props_end all whole at p so_far within close) (properties_stop all start at s said within close) refl close
   at_close at p s false within so_far said same close more =
-      property_both at p s (lines.with_property all at p) (ends.property_end_of all at s (name_at all at)) within so_far said close refl refl (property_agree all at p s same) more
+      property_both at p s (lines.with_property all at p) (ends.property_end_of all at s (read_name_at all at)) within so_far said close refl refl (property_agree all at p s same) more
 
   past : (at : ℕ) (p : Properties) (s : Seen) → length all ≤ at → Props all whole at p → Said all start at s → Closes all whole end
   past at p s out so_far said = none_both whole end at (sym (so_far.is ∙ ap (lines.properties_from all at 0 p) (drop_all at all out))) (properties_past all start at s said out)
@@ -313,7 +313,7 @@ if_true : {A : Type 0} (b : Bool) (x y : A) → b ≡ true → (if b then x else
 if_true true x y h = refl
 if_true false x y h = absurd (false≢true h)
 
-arg_end_by : (all : List Lexeme) (name : Name) (parameter : StringLiteral) (o : Option (Properties × ℕ)) (r : Result ℕ ℕ) → Closes all o r → is_some (lines.arg_ends all name parameter o) ≡ is_ok (goes_on r (ends.paren_end all))
+arg_end_by : (all : List Lexeme) (name : Name) (parameter : StringLiteral) (o : Option (Properties × ℕ)) (r : Result ℕ ℕ) → Closes all o r → is_some (lines.arg_ends all name parameter o) ≡ is_ok (goes_on_from r (ends.paren_end all))
 arg_end_by all name parameter None (Ok at) c = absurd c
 arg_end_by all name parameter None (Err at) c = refl
 arg_end_by all name parameter (Some found) (Err at) c = absurd c
@@ -322,16 +322,16 @@ arg_end_by all name parameter (Some found) (Ok at) c =
     ∙ ap (λ n. lines.ends_at all (n + 1)) c.0 ∙ sym (paren_is all at ∙ if_true (stands is_paren_close all at) (lines.ends_at all (at + 1)) false c.1)
 
 arg_next : (all : List Lexeme) (name : Name) (parameter : StringLiteral) (next : Option ℕ) (r : Result ℕ ℕ) → Follows next r
-    → is_some (lines.arg_from all name parameter next) ≡ is_ok (goes_on r (λ at. goes_on (ends.properties_end all at) (ends.paren_end all)))
-arg_next all name parameter None r follows = ap (λ q. is_ok (goes_on q (λ at. goes_on (ends.properties_end all at) (ends.paren_end all)))) follows.1
+    → is_some (lines.arg_from all name parameter next) ≡ is_ok (goes_on_from r (λ at. goes_on_from (ends.properties_end all at) (ends.paren_end all)))
+arg_next all name parameter None r follows = ap (λ q. is_ok (goes_on_from q (λ at. goes_on_from (ends.properties_end all at) (ends.paren_end all)))) follows.1
 arg_next all name parameter (Some next) r follows =
     arg_end_by all name parameter (lines.with_properties all next lines.no_properties) (ends.properties_end all next) (properties_both all next)
-    ∙ ap (λ q. is_ok (goes_on q (λ at. goes_on (ends.properties_end all at) (ends.paren_end all)))) follows
+    ∙ ap (λ q. is_ok (goes_on_from q (λ at. goes_on_from (ends.properties_end all at) (ends.paren_end all)))) follows
 
 args : (all : List Lexeme) (name : Name) → is_some (lines.arg all name 3) ≡ is_ok (ends.arg_end all 3)
 unfolding lines.arg
 args all name =
-    quoted all 3 (lines.arg_of all name 3) (λ at. goes_on (after_part_end all at) (λ at. goes_on (ends.properties_end all at) (ends.paren_end all))) refl
+    quoted all 3 (lines.arg_of all name 3) (λ at. goes_on_from (after_part_end all at) (λ at. goes_on_from (ends.properties_end all at) (ends.paren_end all))) refl
     (λ parameter. arg_next all name parameter (after_part all 4) (after_part_end all 4) (follows all 4))
 
 -- an attribute by its word
@@ -361,20 +361,20 @@ no_mark true = refl
 no_mark false = refl
 
 argument_by : (all : List Lexeme) (name : Name) (g d a : Bool)
-    → is_some (if stands is_paren_open all 2 then (if g then lines.marked name (lines.group all 3) else (if d then lines.marked name (lines.doc all 3) else (if a then lines.arg all name 3 else None))) else None)
-    ≡ is_ok (if g then goes_on (mark_end is_paren_open all 2) (λ at. goes_on (mark_end is_quoted all at) (ends.paren_end all))
-    else (if d then goes_on (mark_end is_paren_open all 2) (λ at. goes_on (expression_end true all at) (ends.paren_end all))
-    else (if a then goes_on (mark_end is_paren_open all 2) (ends.arg_end all) else Err 1)))
+    → is_some (if stands is_paren_open all 2 then (if g then lines.marked name (lines.group_in_line all 3) else (if d then lines.marked name (lines.doc all 3) else (if a then lines.arg all name 3 else None))) else None)
+    ≡ is_ok (if g then goes_on_from (mark_end is_paren_open all 2) (λ at. goes_on_from (mark_end is_quoted all at) (ends.paren_end all))
+    else (if d then goes_on_from (mark_end is_paren_open all 2) (λ at. goes_on_from (expression_end true all at) (ends.paren_end all))
+    else (if a then goes_on_from (mark_end is_paren_open all 2) (ends.arg_end all) else Err 1)))
 argument_by all name true d a =
-    chosen (stands is_paren_open all 2) (lines.marked name (lines.group all 3)) 2 3 (λ at. goes_on (mark_end is_quoted all at) (ends.paren_end all)) (marked_is name (lines.group all 3) ∙ groups all)
+    chosen (stands is_paren_open all 2) (lines.marked name (lines.group_in_line all 3)) 2 3 (λ at. goes_on_from (mark_end is_quoted all at) (ends.paren_end all)) (marked_is name (lines.group_in_line all 3) ∙ groups all)
 argument_by all name false true a =
-    chosen (stands is_paren_open all 2) (lines.marked name (lines.doc all 3)) 2 3 (λ at. goes_on (expression_end true all at) (ends.paren_end all)) (marked_is name (lines.doc all 3) ∙ docs all)
+    chosen (stands is_paren_open all 2) (lines.marked name (lines.doc all 3)) 2 3 (λ at. goes_on_from (expression_end true all at) (ends.paren_end all)) (marked_is name (lines.doc all 3) ∙ docs all)
 argument_by all name false false true = chosen (stands is_paren_open all 2) (lines.arg all name 3) 2 3 (ends.arg_end all) (args all name)
 argument_by all name false false false = ap is_some (no_mark (stands is_paren_open all 2))
 
 -- a word alone has nothing in parentheses
-no_argument : (w it : List ℕ) → is_some (lines.bare it) ≡ false → is_some (lines.bare w) ≡ true → (b : Bool) → bytes_eq w it ≡ b → b ≡ false
-no_argument w it none some true is = absurd (false≢true (sym none ∙ ap (λ t. is_some (lines.bare t)) (sym ((bytes_eq-Decides w it).0 is)) ∙ some))
+no_argument : (w it : List ℕ) → is_some (lines.word_alone it) ≡ false → is_some (lines.word_alone w) ≡ true → (b : Bool) → bytes_eq w it ≡ b → b ≡ false
+no_argument w it none some true is = absurd (false≢true (sym none ∙ ap (λ t. is_some (lines.word_alone t)) (sym ((bytes_eq-Decides w it).0 is)) ∙ some))
 no_argument w it none some false is = refl
 
 bare_alone : {A : Type 0} (b p g d a : Bool) (it x y z : Option A) → is_some it ≡ true → g ≡ false → d ≡ false → a ≡ false → is_some (if b then it else (if p then (if g then x else (if d then y else (if a then z else None))) else None)) ≡ b
@@ -382,28 +382,28 @@ bare_alone true p g d a it x y z some no_g no_d no_a = some
 bare_alone false true g d a it x y z some no_g no_d no_a = rw (no_g, no_d, no_a) refl
 bare_alone false false g d a it x y z some no_g no_d no_a = refl
 
-word_by : (all : List Lexeme) (name : Name) (b : Bool) → is_some (lines.bare (lexeme name.token)) ≡ b
+word_by : (all : List Lexeme) (name : Name) (b : Bool) → is_some (lines.word_alone (lexeme name.token)) ≡ b
     → is_some (lines.attribute_of all (Some name)) ≡ is_ok (ends.attribute_end_by all (lexeme name.token))
 word_by all name true is =
     let w = lexeme name.token in
     bare_alone (lines.ends_at all 2) (stands is_paren_open all 2) (bytes_eq w (codes "group")) (bytes_eq w (codes "doc")) (bytes_eq w (codes "arg"))
-    (lines.marked name (lines.bare w)) (lines.marked name (lines.group all 3)) (lines.marked name (lines.doc all 3)) (lines.arg all name 3) (marked_is name (lines.bare w) ∙ is)
+    (lines.marked name (lines.word_alone w)) (lines.marked name (lines.group_in_line all 3)) (lines.marked name (lines.doc all 3)) (lines.arg all name 3) (marked_is name (lines.word_alone w) ∙ is)
     (no_argument w (codes "group") refl is (bytes_eq w (codes "group")) refl) (no_argument w (codes "doc") refl is (bytes_eq w (codes "doc")) refl) (no_argument w (codes "arg") refl is (bytes_eq w (codes "arg")) refl)
-    ∙ sym (bracket_is all 2) ∙ sym (ap is_ok (if_true (is_some (lines.bare w)) (ends.bracket_end all 2) _ is))
+    ∙ sym (bracket_is all 2) ∙ sym (ap is_ok (if_true (is_some (lines.word_alone w)) (ends.bracket_end all 2) _ is))
 word_by all name false is =
     let w = lexeme name.token in
-    paren_only (lines.ends_at all 2) (stands is_paren_open all 2) (lines.marked name (lines.bare w)) (lines.with_argument all name) (marked_is name (lines.bare w) ∙ is)
+    paren_only (lines.ends_at all 2) (stands is_paren_open all 2) (lines.marked name (lines.word_alone w)) (lines.with_argument all name) (marked_is name (lines.word_alone w) ∙ is)
     (λ h. no_open_there (slice_get all 2) (ends_by (stands is_bracket_close all 2) (2 + 1 == length all) h))
     ∙ argument_by all name (bytes_eq w (codes "group")) (bytes_eq w (codes "doc")) (bytes_eq w (codes "arg"))
     ∙ ap (λ b. is_ok (if b then ends.bracket_end all 2
-    else (if bytes_eq w (codes "group") then goes_on (mark_end is_paren_open all 2) (λ at. goes_on (mark_end is_quoted all at) (ends.paren_end all))
-    else (if bytes_eq w (codes "doc") then goes_on (mark_end is_paren_open all 2) (λ at. goes_on (expression_end true all at) (ends.paren_end all))
-    else (if bytes_eq w (codes "arg") then goes_on (mark_end is_paren_open all 2) (ends.arg_end all) else Err 1))))) (sym is)
+    else (if bytes_eq w (codes "group") then goes_on_from (mark_end is_paren_open all 2) (λ at. goes_on_from (mark_end is_quoted all at) (ends.paren_end all))
+    else (if bytes_eq w (codes "doc") then goes_on_from (mark_end is_paren_open all 2) (λ at. goes_on_from (expression_end true all at) (ends.paren_end all))
+    else (if bytes_eq w (codes "arg") then goes_on_from (mark_end is_paren_open all 2) (ends.arg_end all) else Err 1))))) (sym is)
 
 named_by : (all : List Lexeme) (name : Option Name) → is_some (lines.attribute_of all name) ≡ is_ok (ends.attribute_end_of all name)
 named_by all None = refl
-named_by all (Some name) = word_by all name (is_some (lines.bare (lexeme name.token))) refl
+named_by all (Some name) = word_by all name (is_some (lines.word_alone (lexeme name.token))) refl
 
 pub attributes_agree : (all : List Lexeme) → is_some (lines.attribute all) ≡ is_ok (ends.attribute_end all)
 unfolding lines.attribute ends.attribute_end
-attributes_agree all = chosen (stands is_bracket_open all 0) (lines.attribute_of all (name_at all 1)) 0 1 (λ _. ends.attribute_end_of all (name_at all 1)) (named_by all (name_at all 1))
+attributes_agree all = chosen (stands is_bracket_open all 0) (lines.attribute_of all (read_name_at all 1)) 0 1 (λ _. ends.attribute_end_of all (read_name_at all 1)) (named_by all (read_name_at all 1))

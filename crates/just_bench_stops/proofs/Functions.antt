@@ -10,13 +10,13 @@ use Rattle.just_ast_definitions.specs.declared.function_definition.FunctionParam
 use Rattle.just_bench_expressions.specs.declared.lexer.Kind.{Kind}
 use Rattle.just_bench_expressions.specs.declared.lexer.Kind.TheVariants as kind
 use Rattle.just_bench_expressions.specs.declared.lexer.Lexeme.{Lexeme}
-use Rattle.just_bench_lines.specs.Definitions.{after_part, function, function_by, parameters, whole_expression, with_body, with_parameters}
-use Rattle.just_bench_lines.specs.Places.{is_assign, is_comma, is_name, is_paren_close, is_paren_open, name_at, name_there, stands, stands_there}
+use Rattle.just_bench_lines.specs.Definitions.{after_part, function, function_in_line, parameters, whole_expression, with_body, with_parameters}
+use Rattle.just_bench_lines.specs.Places.{is_assign, is_comma, is_name_kind, is_paren_close, is_paren_open, read_name_at, name_there, stands, stands_there}
 use Rattle.just_bench_lines.proofs.Listed.{Listed, listed_end, listed_fail, listed_start, listed_step, listed_stuck}
 use Rattle.just_bench_stops.specs.declared.halt.Halt.TheVariants as halt
 use Rattle.just_bench_stops.specs.declared.parts.Part.TheVariants as part_kind
 use Rattle.just_bench_stops.specs.Definitions.{function_end, whole_end}
-use Rattle.just_bench_stops.specs.Marks.{goes_on, mark_end}
+use Rattle.just_bench_stops.specs.Marks.{goes_on_from, mark_end}
 use Rattle.just_bench_stops.specs.Parts.{after_part_end, part_end, parts_end}
 use Rattle.just_bench_stops.proofs.Ends.{chosen, named, whole}
 use Rattle.just_bench_stops.proofs.Walks.{Walked, parts_fail, parts_past, parts_push, parts_start, parts_stop}
@@ -63,15 +63,15 @@ pub next_within : (all : List Lexeme) (at next : ℕ) → Ok next ≡ after_part
 next_within all at next is = next_by all (stands is_comma all at) (stands is_paren_close all at) (stands is_paren_close all (at + 1)) at next refl refl is
 
 -- a name or none
-name_is : (o : Option Lexeme) (name : Option Name) → name ≡ name_there o → stands_there is_name o ≡ is_some name
+name_is : (o : Option Lexeme) (name : Option Name) → name ≡ name_there o → stands_there is_name_kind o ≡ is_some name
 name_is None name h = ap is_some (sym h)
-name_is (Some l) name h = by (is_name l.kind) (record { token = l.token }) ∙ ap is_some (sym h)
+name_is (Some l) name h = by (is_name_kind l.kind) (record { token = l.token }) ∙ ap is_some (sym h)
   where
     by : (b : Bool) (n : Name) → b ≡ is_some (if b then Some n else None)
     by true n = refl
     by false n = refl
 
-close_is_no_name : (k : Kind) → is_paren_close k ≡ true → is_name k ≡ false
+close_is_no_name : (k : Kind) → is_paren_close k ≡ true → is_name_kind k ≡ false
 close_is_no_name kind.ParenClose h = refl
 close_is_no_name _ h = absurd (false≢true h)
 
@@ -90,11 +90,11 @@ module _ (all : List Lexeme) (start : ℕ) where
   some_both p r found at some is same = subst (λ q. Closes q r) some (subst (Closes (Some found)) is same)
 
   -- a parameter, with what stands behind it
-  one_is : (at : ℕ) (b : Bool) → stands is_name all at ≡ b → one all at ≡ (if b then after_part_end all (at + 1) else Err at)
+  one_is : (at : ℕ) (b : Bool) → stands is_name_kind all at ≡ b → one all at ≡ (if b then after_part_end all (at + 1) else Err at)
   unfolding part_end
-  one_is at b is = ap (λ c. goes_on (if c then Ok (at + 1) else Err at) (λ end. after_part_end all end)) is ∙ same b
+  one_is at b is = ap (λ c. goes_on_from (if c then Ok (at + 1) else Err at) (λ end. after_part_end all end)) is ∙ same b
     where
-      same : (b : Bool) → goes_on (if b then Ok (at + 1) else Err at) (λ end. after_part_end all end) ≡ (if b then after_part_end all (at + 1) else Err at)
+      same : (b : Bool) → goes_on_from (if b then Ok (at + 1) else Err at) (λ end. after_part_end all end) ≡ (if b then after_part_end all (at + 1) else Err at)
       same true = refl
       same false = refl
 
@@ -103,7 +103,7 @@ module _ (all : List Lexeme) (start : ℕ) where
 
   -- behind a name
   behind : (at : ℕ) (made : List FunctionParameter) (name : Name) (next : Option ℕ) → at < length all → Listed all start made at → Walked false is_paren_close one all start at
-      → stands is_paren_close all at ≡ false → Some name ≡ name_at all at → next ≡ after_part all (at + 1) → Follows next (after_part_end all (at + 1)) → More at → both
+      → stands is_paren_close all at ≡ false → Some name ≡ read_name_at all at → next ≡ after_part all (at + 1) → Follows next (after_part_end all (at + 1)) → More at → both
   behind at made name None within so_far walked sharp is goes follows more =
       none_both (parameters all start) (parts_end false is_paren_close one all start) follows.0 (listed_stuck all start made at name so_far is goes)
       (parts_fail false is_paren_close one all start at (halt.At follows.0) walked within sharp (follows.1 ∙ sym (one_is at true (name_is (slice_get all at) (Some name) is))))
@@ -113,7 +113,7 @@ module _ (all : List Lexeme) (start : ℕ) where
       (parts_push false is_paren_close one all start at next walked within sharp (follows ∙ sym (one_is at true (name_is (slice_get all at) (Some name) is))) (record { onward = omega (arith, w.0); within = w.1 }))
 
   at_name : (at : ℕ) (made : List FunctionParameter) (name : Option Name) → at < length all → Listed all start made at → Walked false is_paren_close one all start at
-      → stands is_paren_close all at ≡ false → name ≡ name_at all at → More at → both
+      → stands is_paren_close all at ≡ false → name ≡ read_name_at all at → More at → both
   at_name at made None within so_far walked sharp is more =
       none_both (parameters all start) (parts_end false is_paren_close one all start) at (listed_fail all start made at so_far is sharp)
       (parts_fail false is_paren_close one all start at (halt.At at) walked within sharp (sym (one_is at false (name_is (slice_get all at) None is))))
@@ -123,7 +123,7 @@ module _ (all : List Lexeme) (start : ℕ) where
   at_close at made true within so_far walked close more =
       some_both (parameters all start) (parts_end false is_paren_close one all start) (made, at + 1) at (listed_end all start made at so_far (none_by (slice_get all at) close) close)
       (parts_stop false is_paren_close one all start at walked within close) refl
-  at_close at made false within so_far walked close more = at_name at made (name_at all at) within so_far walked close refl more
+  at_close at made false within so_far walked close more = at_name at made (read_name_at all at) within so_far walked close refl more
 
   past : (at : ℕ) (made : List FunctionParameter) → length all ≤ at → Listed all start made at → Walked false is_paren_close one all start at → both
   past at made out so_far walked =
@@ -144,17 +144,17 @@ module _ (all : List Lexeme) (start : ℕ) where
 
 -- the body of a function
 bodied : (all : List Lexeme) (name : Name) (found : Option (List FunctionParameter × ℕ)) (end : Result ℕ ℕ) → Closes found end
-    → is_some (with_parameters all name found) ≡ is_ok (goes_on end (λ close. goes_on (mark_end is_assign all (close + 1)) (whole_end all)))
+    → is_some (with_parameters all name found) ≡ is_ok (goes_on_from end (λ close. goes_on_from (mark_end is_assign all (close + 1)) (whole_end all)))
 bodied all name None (Ok close) same = absurd same
 bodied all name None (Err at) same = refl
 bodied all name (Some found) (Err at) same = absurd same
 bodied all name (Some found) (Ok close) same =
-    subst (λ n. is_some (with_parameters all name (Some found)) ≡ is_ok (goes_on (mark_end is_assign all n) (whole_end all))) same
+    subst (λ n. is_some (with_parameters all name (Some found)) ≡ is_ok (goes_on_from (mark_end is_assign all n) (whole_end all))) same
     (chosen (stands is_assign all found.1) (with_body name found.0 (whole_expression all (found.1 + 1))) found.1 (found.1 + 1) (whole_end all) (whole all (found.1 + 1) (with_body name found.0) refl (λ e. refl)))
 
 pub functions : (all : List Lexeme) → is_some (function all) ≡ is_ok (function_end all)
 functions all =
-    named all 0 (function_by all)
-    (λ at. goes_on (mark_end is_paren_open all at) (λ at. goes_on (parts_end false is_paren_close one all at) (λ close. goes_on (mark_end is_assign all (close + 1)) (whole_end all)))) refl
-    (λ name. chosen (stands is_paren_open all 1) (with_parameters all name (parameters all 2)) 1 2 (λ at. goes_on (parts_end false is_paren_close one all at) (λ close. goes_on (mark_end is_assign all (close + 1)) (whole_end all)))
+    named all 0 (function_in_line all)
+    (λ at. goes_on_from (mark_end is_paren_open all at) (λ at. goes_on_from (parts_end false is_paren_close one all at) (λ close. goes_on_from (mark_end is_assign all (close + 1)) (whole_end all)))) refl
+    (λ name. chosen (stands is_paren_open all 1) (with_parameters all name (parameters all 2)) 1 2 (λ at. goes_on_from (parts_end false is_paren_close one all at) (λ close. goes_on_from (mark_end is_assign all (close + 1)) (whole_end all)))
     (bodied all name (parameters all 2) (parts_end false is_paren_close one all 2) (agree all 2)))

@@ -24,13 +24,13 @@ use Rattle.just_bench_lines.specs.Dependencies as lines
 use Rattle.just_bench_lines.specs.Heading as heading
 use Rattle.just_bench_lines.specs.Parts.{parts_from}
 use Rattle.just_bench_lines.specs.Path.{and_names, joined_names, path, path_from, separated, separates}
-use Rattle.just_bench_lines.specs.Places.{GoesOn, is_and, is_at_sign, is_colon, is_equals, is_name, is_paren_close, is_paren_open, is_plus, is_star, name_at, name_there, stands, stands_there}
+use Rattle.just_bench_lines.specs.Places.{GoesOn, is_and, is_at_sign, is_colon, is_equals, is_name_kind, is_paren_close, is_paren_open, is_plus, is_star, read_name_at, name_there, stands, stands_there}
 use Rattle.just_bench_lines.proofs.Fronts.{Front, front}
 use Rattle.just_bench_lines.proofs.Parts as made
 use Rattle.just_bench_stops.specs.declared.halt.Halt.TheVariants as halt
 use Rattle.just_bench_stops.specs.declared.parts.Part.TheVariants as part_kind
 use Rattle.just_bench_stops.specs.Heading as ends
-use Rattle.just_bench_stops.specs.Marks.{goes_on, line_end, mark_end, path_end, path_end_by}
+use Rattle.just_bench_stops.specs.Marks.{goes_on_from, line_end, mark_end, path_end, path_end_by}
 use Rattle.just_bench_stops.specs.Parts.{default_end, dependencies_end, dependency_end, given_end, part_end, parts_end, starred_end}
 use Rattle.just_bench_stops.proofs.Alike.{Alike, Both, Stuck, parts_both}
 use Rattle.just_bench_stops.proofs.Ends.{named, separated_inside}
@@ -51,15 +51,15 @@ no_begin_by kind.ParenOpen all at end l call h = absurd (false≢true (sym h))
 no_begin_by kind.BracketOpen all at end l call h = absurd (false≢true (sym h))
 no_begin_by _ all at end l call h = refl
 
-no_step : (all : List Lexeme) (at end : ℕ) (l : Lexeme) (call : Bool) → begins l.kind ≡ false → spec.step all at end spec.unread l call ≡ None
-unfolding spec.step spec.begun
+no_step : (all : List Lexeme) (at end : ℕ) (l : Lexeme) (call : Bool) → begins l.kind ≡ false → spec.read_step all at end spec.unread l call ≡ None
+unfolding spec.read_step spec.begun_expression
 no_step all at end l call h = no_begin_by l.kind all at end l call h
 
 no_operand_at : (all : List Lexeme) (at : ℕ) (l : Lexeme) → Front all at l → begins l.kind ≡ false → spec.expression false all at ≡ None
 unfolding spec.expression
 no_operand_at all at l f h =
     ap (spec.read false all at spec.unread) f.dropped
-    ∙ ap (λ o. spec.onward o (λ next. spec.read false all (at + 1) next (drop (at + 1) all))) (no_step all at (at + 1) l (spec.calls (drop (at + 1) all)) h)
+    ∙ ap (λ o. spec.onward o (λ next. spec.read false all (at + 1) next (drop (at + 1) all))) (no_step all at (at + 1) l (spec.opens_call (drop (at + 1) all)) h)
 
 -- a lexeme that stands at a place is of no other kind
 pub only : (test is : Kind → Bool) (k : Kind) → ((c : Kind) → test c ≡ true → c ≡ k) → is k ≡ false → (o : Option Lexeme) → stands_there test o ≡ true → stands_there is o ≡ false
@@ -122,22 +122,22 @@ module _ (all : List Lexeme) where
   default_by false at n name k h within = (refl, record { onward = omega (arith, h); within = omega (arith, within) })
 
   name_by : (b : Bool) (at n : ℕ) (name : Name) (k : ParameterKind) → at ≤ n → n < length all
-      → Parameters at (heading.by_name all n k (if b then Some name else None)) (goes_on (if b then Ok (n + 1) else Err n) (λ end. default_end all end))
+      → Parameters at (heading.parameter_by_name all n k (if b then Some name else None)) (goes_on_from (if b then Ok (n + 1) else Err n) (λ end. default_end all end))
   name_by true at n name k h within = default_by (stands is_equals all (n + 1)) at n name k h within
   name_by false at n name k h within = tt
 
   name_of : (at n : ℕ) (k : ParameterKind) (o : Option Lexeme) → slice_get all n ≡ o → at ≤ n
-      → Parameters at (heading.by_name all n k (name_there o)) (goes_on (if stands_there is_name o then Ok (n + 1) else Err n) (λ end. default_end all end))
+      → Parameters at (heading.parameter_by_name all n k (name_there o)) (goes_on_from (if stands_there is_name_kind o then Ok (n + 1) else Err n) (λ end. default_end all end))
   name_of at n k None is h = tt
-  name_of at n k (Some l) is h = name_by (is_name l.kind) at n (record { token = l.token }) k h (slice_get_within all n l is)
+  name_of at n k (Some l) is h = name_by (is_name_kind l.kind) at n (record { token = l.token }) k h (slice_get_within all n l is)
 
-  named_alike : (at n : ℕ) (k : ParameterKind) → at ≤ n → Parameters at (heading.named_parameter all n k) (goes_on (mark_end is_name all n) (λ end. default_end all end))
+  named_alike : (at n : ℕ) (k : ParameterKind) → at ≤ n → Parameters at (heading.named_parameter all n k) (goes_on_from (mark_end is_name_kind all n) (λ end. default_end all end))
   unfolding heading.named_parameter
   named_alike at n k h = name_of at n k (slice_get all n) refl h
 
   sign_by : (s p : Bool) (at : ℕ)
       → Parameters at (if s then heading.named_parameter all (at + 1) parameter_kind.Star else (if p then heading.named_parameter all (at + 1) parameter_kind.Plus else heading.named_parameter all at parameter_kind.Singular))
-      (goes_on (mark_end is_name all (if s then at + 1 else (if p then at + 1 else at))) (λ end. default_end all end))
+      (goes_on_from (mark_end is_name_kind all (if s then at + 1 else (if p then at + 1 else at))) (λ end. default_end all end))
   sign_by true p at = named_alike at (at + 1) parameter_kind.Star (omega arith)
   sign_by false true at = named_alike at (at + 1) parameter_kind.Plus (omega arith)
   sign_by false false at = named_alike at at parameter_kind.Singular (omega arith)
@@ -336,17 +336,17 @@ module _ (all : List Lexeme) where
   behind_star at = parts_end false is_paren_close (part_end part_kind.Argument) all at
 
   abbrev stars_end : ℕ → Result ℕ ℕ
-  stars_end start = goes_on (parts_end false is_star (part_end part_kind.Operand) all start) (λ at. behind_star at)
+  stars_end start = goes_on_from (parts_end false is_star (part_end part_kind.Operand) all start) (λ at. behind_star at)
 
   abbrev To : ℕ → ℕ → Type 0
   To start at = gone.Walked false is_star (part_end part_kind.Operand) all start at
 
-  none_stars : (start : ℕ) (o : Option (List DependencyArgument × ℕ)) (r : Result ℕ ℕ) (e : ℕ) → None ≡ o → Err e ≡ r → Stars start o (goes_on r (λ at. behind_star at))
-  none_stars start o r e none is = subst (λ (q : Option (List DependencyArgument × ℕ)). Stars start q (goes_on r (λ at. behind_star at))) none (subst (λ q. Stars start None (goes_on q (λ at. behind_star at))) is tt)
+  none_stars : (start : ℕ) (o : Option (List DependencyArgument × ℕ)) (r : Result ℕ ℕ) (e : ℕ) → None ≡ o → Err e ≡ r → Stars start o (goes_on_from r (λ at. behind_star at))
+  none_stars start o r e none is = subst (λ (q : Option (List DependencyArgument × ℕ)). Stars start q (goes_on_from r (λ at. behind_star at))) none (subst (λ q. Stars start None (goes_on_from q (λ at. behind_star at))) is tt)
 
-  unstarred : (start : ℕ) (o : Option (List DependencyArgument × ℕ)) (r : Result ℕ ℕ) (args : List DependencyArgument) (at e : ℕ) → Some (args, at) ≡ o → Err e ≡ r → has_star args ≡ false → Stars start o (goes_on r (λ at. behind_star at))
+  unstarred : (start : ℕ) (o : Option (List DependencyArgument × ℕ)) (r : Result ℕ ℕ) (args : List DependencyArgument) (at e : ℕ) → Some (args, at) ≡ o → Err e ≡ r → has_star args ≡ false → Stars start o (goes_on_from r (λ at. behind_star at))
   unstarred start o r args at e some is none =
-      subst (λ (q : Option (List DependencyArgument × ℕ)). Stars start q (goes_on r (λ at. behind_star at))) some (subst (λ q. Stars start (Some (args, at)) (goes_on q (λ at. behind_star at))) is none)
+      subst (λ (q : Option (List DependencyArgument × ℕ)). Stars start q (goes_on_from r (λ at. behind_star at))) some (subst (λ q. Stars start (Some (args, at)) (goes_on_from q (λ at. behind_star at))) is none)
 
   -- from the first star on
   after_none : (o : Option (List DependencyArgument × ℕ)) → made.after_those [] o ≡ o
@@ -378,7 +378,7 @@ module _ (all : List Lexeme) where
       let close = only is_star is_paren_close kind.Star star_is refl (slice_get all at) star in
       let tail = tail_stars start at args (lines.arguments all at) (behind_star at) on.onward (arguments_both at) (star_any at at [] (made.parts_start false is_paren_close lines.argument all at [] refl) within close star) in
       subst (λ (q : Option (List DependencyArgument × ℕ)). Stars start q (stars_end start)) (sym (tail_is start at args so_far))
-      (subst (λ q. Stars start (made.after_those args (lines.arguments all at)) (goes_on q (λ n. behind_star n))) (gone.parts_stop false is_star (part_end part_kind.Operand) all start at on within star) tail)
+      (subst (λ q. Stars start (made.after_those args (lines.arguments all at)) (goes_on_from q (λ n. behind_star n))) (gone.parts_stop false is_star (part_end part_kind.Operand) all start at on within star) tail)
 
   abbrev MoreStars : ℕ → ℕ → Type 0
   MoreStars start at = (next : ℕ) (args : List DependencyArgument) → at < next → Read start args next → To start next → has_star args ≡ false → Stars start (lines.arguments all start) (stars_end start)
@@ -448,7 +448,7 @@ module _ (all : List Lexeme) where
 
   path_of : (at : ℕ) (o : Option Lexeme) → slice_get all at ≡ o → OnPath at (path_from at (joined_names (drop (at + 1) all)) (name_there o))
   path_of at None is = tt
-  path_of at (Some l) is = path_by (is_name l.kind) at (record { token = l.token }) (slice_get_within all at l is)
+  path_of at (Some l) is = path_by (is_name_kind l.kind) at (record { token = l.token }) (slice_get_within all at l is)
 
   path_on : (at : ℕ) → OnPath at (path all at)
   unfolding path
@@ -458,11 +458,11 @@ module _ (all : List Lexeme) where
   no_name_by true name h = absurd (false≢true (sym h))
   no_name_by false name h = refl
 
-  no_name_of : (o : Option Lexeme) → stands_there is_name o ≡ false → name_there o ≡ None
+  no_name_of : (o : Option Lexeme) → stands_there is_name_kind o ≡ false → name_there o ≡ None
   no_name_of None h = refl
-  no_name_of (Some l) h = no_name_by (is_name l.kind) (record { token = l.token }) h
+  no_name_of (Some l) h = no_name_by (is_name_kind l.kind) (record { token = l.token }) h
 
-  no_path : (at : ℕ) → stands is_name all at ≡ false → path all at ≡ None
+  no_path : (at : ℕ) → stands is_name_kind all at ≡ false → path all at ≡ None
   unfolding path
   no_path at h = ap (path_from at (joined_names (drop (at + 1) all))) (no_name_of (slice_get all at) h)
 
@@ -493,13 +493,13 @@ module _ (all : List Lexeme) where
   misfit_by true at n e d is = absurd (false≢true (sym is))
   misfit_by false at n e d is = tt
 
-  plain_exact : (at start : ℕ) (p : Namepath) (o : Option (List DependencyArgument × ℕ)) (r : Result ℕ ℕ) → at < start → Plain start o r → Exact at (lines.with_arguments false p o) (goes_on r (λ end. Ok (end + 1)))
+  plain_exact : (at start : ℕ) (p : Namepath) (o : Option (List DependencyArgument × ℕ)) (r : Result ℕ ℕ) → at < start → Plain start o r → Exact at (lines.with_arguments false p o) (goes_on_from r (λ end. Ok (end + 1)))
   plain_exact at start p None (Ok end) h plain = absurd plain
   plain_exact at start p None (Err e) h plain = tt
   plain_exact at start p (Some found) (Err e) h plain = misfit_by (not (has_star found.0)) at found.1 e (record { arguments = found.0; recipe = p }) (ap not plain)
   plain_exact at start p (Some found) (Ok end) h plain = fit_by (not (has_star found.0)) at found.1 end (record { arguments = found.0; recipe = p }) (ap not plain.1) plain.0 (omega (arith, h, plain.2)) plain.3
 
-  stars_exact : (at start : ℕ) (p : Namepath) (o : Option (List DependencyArgument × ℕ)) (r : Result ℕ ℕ) → at < start → Stars start o r → Exact at (lines.with_arguments true p o) (goes_on r (λ end. Ok (end + 1)))
+  stars_exact : (at start : ℕ) (p : Namepath) (o : Option (List DependencyArgument × ℕ)) (r : Result ℕ ℕ) → at < start → Stars start o r → Exact at (lines.with_arguments true p o) (goes_on_from r (λ end. Ok (end + 1)))
   stars_exact at start p None (Ok end) h stars = absurd stars
   stars_exact at start p None (Err e) h stars = tt
   stars_exact at start p (Some found) (Err e) h stars = misfit_by (has_star found.0) at found.1 e (record { arguments = found.0; recipe = p }) stars
@@ -518,22 +518,22 @@ module _ (all : List Lexeme) where
 
   -- a path and what stands behind it, where that reads alike
   pathed_by : (b star : Bool) (at : ℕ) (p : Namepath) (n : ℕ) (more : ℕ → Result ℕ ℕ) → separated all n ≡ b → Exact at (lines.with_arguments star p (lines.arguments all n)) (more n)
-      → Exact at (lines.with_arguments star p (lines.arguments all n)) (goes_on (if b then Err (n + 2) else Ok n) more)
+      → Exact at (lines.with_arguments star p (lines.arguments all n)) (goes_on_from (if b then Err (n + 2) else Ok n) more)
   pathed_by true star at p n more is h = subst (λ (q : Option (List DependencyArgument × ℕ)). Exact at (lines.with_arguments star p q) (Err (n + 2))) (no_argument n is) tt
   pathed_by false star at p n more is h = h
 
   pathed : (star : Bool) (at inner : ℕ) (o : Option (Namepath × ℕ)) (more : ℕ → Result ℕ ℕ) → IfSome o (λ f. Exact at (lines.with_arguments star f.0 (lines.arguments all f.1)) (more f.1))
-      → Exact at (lines.in_parentheses all star o) (goes_on (path_end_by all inner o) more)
+      → Exact at (lines.in_parentheses all star o) (goes_on_from (path_end_by all inner o) more)
   pathed star at inner None more h = tt
   pathed star at inner (Some f) more h = pathed_by (separated all f.1) star at f.0 f.1 more refl h
 
   abbrev plain_more : ℕ → Result ℕ ℕ
-  plain_more at = goes_on (operands at) (λ end. Ok (end + 1))
+  plain_more at = goes_on_from (operands at) (λ end. Ok (end + 1))
 
   abbrev stars_more : ℕ → Result ℕ ℕ
-  stars_more at = goes_on (parts_end false is_star (part_end part_kind.Operand) all at) (λ at. goes_on (behind_star at) (λ end. Ok (end + 1)))
+  stars_more at = goes_on_from (parts_end false is_star (part_end part_kind.Operand) all at) (λ at. goes_on_from (behind_star at) (λ end. Ok (end + 1)))
 
-  regrouped : (r : Result ℕ ℕ) → goes_on (goes_on r (λ at. behind_star at)) (λ end. Ok (end + 1)) ≡ goes_on r (λ at. goes_on (behind_star at) (λ end. Ok (end + 1)))
+  regrouped : (r : Result ℕ ℕ) → goes_on_from (goes_on_from r (λ at. behind_star at)) (λ end. Ok (end + 1)) ≡ goes_on_from r (λ at. goes_on_from (behind_star at) (λ end. Ok (end + 1)))
   regrouped (Ok at) = refl
   regrouped (Err e) = refl
 
@@ -547,28 +547,28 @@ module _ (all : List Lexeme) where
       subst (Exact at (lines.with_arguments true f.0 (lines.arguments all f.1))) (regrouped (parts_end false is_star (part_end part_kind.Operand) all f.1))
       (stars_exact at f.1 f.0 (lines.arguments all f.1) (stars_end f.1) (omega (arith, on.onward)) (stars_both f.1))
 
-  paren_by : (b : Bool) (at : ℕ) (o : Option (UnresolvedDependency × ℕ)) (more : ℕ → Result ℕ ℕ) → Exact at o (more (at + 1)) → Exact at (if b then o else None) (goes_on (if b then Ok (at + 1) else Err at) more)
+  paren_by : (b : Bool) (at : ℕ) (o : Option (UnresolvedDependency × ℕ)) (more : ℕ → Result ℕ ℕ) → Exact at o (more (at + 1)) → Exact at (if b then o else None) (goes_on_from (if b then Ok (at + 1) else Err at) more)
   paren_by true at o more h = h
   paren_by false at o more h = tt
 
-  given_plain : (at : ℕ) → Exact at (lines.given all false at) (given_end all at)
-  unfolding lines.given
+  given_plain : (at : ℕ) → Exact at (lines.parenthesized all false at) (given_end all at)
+  unfolding lines.parenthesized
   given_plain at =
-      paren_by (stands is_paren_open all at) at (lines.in_parentheses all false (path all (at + 1))) (λ at. goes_on (path_end all at) (λ at. plain_more at))
+      paren_by (stands is_paren_open all at) at (lines.in_parentheses all false (path all (at + 1))) (λ at. goes_on_from (path_end all at) (λ at. plain_more at))
       (pathed false at (at + 1) (path all (at + 1)) (λ at. plain_more at) (each_plain at (path all (at + 1)) (path_on (at + 1))))
 
-  given_stars : (at : ℕ) → Exact at (lines.given all true at) (starred_end all at)
-  unfolding lines.given
+  given_stars : (at : ℕ) → Exact at (lines.parenthesized all true at) (starred_end all at)
+  unfolding lines.parenthesized
   given_stars at =
-      paren_by (stands is_paren_open all at) at (lines.in_parentheses all true (path all (at + 1))) (λ at. goes_on (path_end all at) (λ at. stars_more at))
+      paren_by (stands is_paren_open all at) at (lines.in_parentheses all true (path all (at + 1))) (λ at. goes_on_from (path_end all at) (λ at. stars_more at))
       (pathed true at (at + 1) (path all (at + 1)) (λ at. stars_more at) (each_stars at (path all (at + 1)) (path_on (at + 1))))
 
   -- where none begins
-  no_dependency : (at : ℕ) → stands is_star all at ≡ false → stands is_paren_open all at ≡ false → stands is_name all at ≡ false → None ≡ lines.dependency all at
+  no_dependency : (at : ℕ) → stands is_star all at ≡ false → stands is_paren_open all at ≡ false → stands is_name_kind all at ≡ false → None ≡ lines.dependency all at
   unfolding lines.dependency
   no_dependency at star paren name =
-      sym (ap (λ b. if b then lines.given all true (at + 1) else (if stands is_paren_open all at then lines.given all false at else lines.alone (path all at))) star
-      ∙ ap (λ b. if b then lines.given all false at else lines.alone (path all at)) paren
+      sym (ap (λ b. if b then lines.parenthesized all true (at + 1) else (if stands is_paren_open all at then lines.parenthesized all false at else lines.alone (path all at))) star
+      ∙ ap (λ b. if b then lines.parenthesized all false at else lines.alone (path all at)) paren
       ∙ ap lines.alone (no_path at name))
 
   abbrev Dependencies : ℕ → Option (UnresolvedDependency × ℕ) → Result ℕ ℕ → Type 0
@@ -587,7 +587,7 @@ module _ (all : List Lexeme) where
         within = separated_inside all at h;
         sharp = only is_colon is_and kind.Colon colon_is refl (slice_get all at) colon;
         none = no_dependency at (only is_colon is_star kind.Colon colon_is refl (slice_get all at) colon) (only is_colon is_paren_open kind.Colon colon_is refl (slice_get all at) colon)
-            (only is_colon is_name kind.Colon colon_is refl (slice_get all at) colon);
+            (only is_colon is_name_kind kind.Colon colon_is refl (slice_get all at) colon);
       }
 
   alone_by : (b : Bool) (at : ℕ) (f : Namepath × ℕ) → separated all f.1 ≡ b → GoesOn all at f.1 → Dependencies at (lines.alone (Some f)) (if b then Err (f.1 + 2) else Ok f.1)
@@ -599,9 +599,9 @@ module _ (all : List Lexeme) where
   alone_of at (Some f) on = alone_by (separated all f.1) at f refl on
 
   dependency_by : (s p : Bool) (at : ℕ)
-      → Dependencies at (if s then lines.given all true (at + 1) else (if p then lines.given all false at else lines.alone (path all at))) (if s then starred_end all (at + 1) else (if p then given_end all at else path_end all at))
-  dependency_by true p at = nearer at (lines.given all true (at + 1)) (starred_end all (at + 1)) (at + 1) (omega arith) (given_stars (at + 1))
-  dependency_by false true at = nearer at (lines.given all false at) (given_end all at) at (omega arith) (given_plain at)
+      → Dependencies at (if s then lines.parenthesized all true (at + 1) else (if p then lines.parenthesized all false at else lines.alone (path all at))) (if s then starred_end all (at + 1) else (if p then given_end all at else path_end all at))
+  dependency_by true p at = nearer at (lines.parenthesized all true (at + 1)) (starred_end all (at + 1)) (at + 1) (omega arith) (given_stars (at + 1))
+  dependency_by false true at = nearer at (lines.parenthesized all false at) (given_end all at) at (omega arith) (given_plain at)
   dependency_by false false at = alone_of at (path all at) (path_on at)
 
   dependency_alike : (at : ℕ) → Dependencies at (lines.dependency all at) (dependency_end all at)
@@ -629,16 +629,16 @@ module _ (all : List Lexeme) where
   some_left true n x = refl
   some_left false n x = refl
 
-  ends_alike : (at : ℕ) (r : Result ℕ ℕ) → Dependencies at None r → (more : ℕ → Result ℕ ℕ) → is_ok (goes_on r more) ≡ false
+  ends_alike : (at : ℕ) (r : Result ℕ ℕ) → Dependencies at None r → (more : ℕ → Result ℕ ℕ) → is_ok (goes_on_from r more) ≡ false
   ends_alike at (Ok end) h more = absurd h
   ends_alike at (Err e) h more = refl
 
   no_subsequent : (priors : List UnresolvedDependency) (at : ℕ) → Some ([], at) ≡ lines.dependency_list all at → None ≡ lines.dependency all at → after priors (lines.dependency_list all at) ≡ is_ok (ends.subsequents_end all at)
   no_subsequent priors at is none =
       ap (after priors) (sym is) ∙ none_left (at == length all) (priors, [])
-      ∙ sym (ends_alike at (dependency_end all at) (subst (λ o. Dependencies at o (dependency_end all at)) (sym none) (dependency_alike at)) (λ n. goes_on (dependencies_end all n) (line_end all)))
+      ∙ sym (ends_alike at (dependency_end all at) (subst (λ o. Dependencies at o (dependency_end all at)) (sym none) (dependency_alike at)) (λ n. goes_on_from (dependencies_end all n) (line_end all)))
 
-  and_more : (priors : List UnresolvedDependency) (d : UnresolvedDependency) (o : Listing) (r : Result ℕ ℕ) (at : ℕ) → Both true all at o r → after priors (made.after_those (d ∷ []) o) ≡ is_ok (goes_on r (line_end all))
+  and_more : (priors : List UnresolvedDependency) (d : UnresolvedDependency) (o : Listing) (r : Result ℕ ℕ) (at : ℕ) → Both true all at o r → after priors (made.after_those (d ∷ []) o) ≡ is_ok (goes_on_from r (line_end all))
   and_more priors d None (Ok end) at both = absurd both
   and_more priors d None (Err e) at both = refl
   and_more priors d (Some found) (Err e) at both = absurd both
@@ -657,7 +657,7 @@ module _ (all : List Lexeme) where
       same (Some more) = refl
 
   one_subsequent : (priors : List UnresolvedDependency) (at : ℕ) (o : Option (UnresolvedDependency × ℕ)) (r : Result ℕ ℕ) → at < length all → stands is_and all at ≡ false → o ≡ lines.dependency all at → Dependencies at o r
-      → after priors (lines.dependency_list all at) ≡ is_ok (goes_on r (λ n. goes_on (dependencies_end all n) (line_end all)))
+      → after priors (lines.dependency_list all at) ≡ is_ok (goes_on_from r (λ n. goes_on_from (dependencies_end all n) (line_end all)))
   one_subsequent priors at None (Ok end) within sharp is alike = absurd alike
   one_subsequent priors at None (Err e) within sharp is alike =
       ap (after priors) (sym (made.parts_fail true is_and lines.dependency all at [] at (made.parts_start true is_and lines.dependency all at [] refl) within sharp is))
@@ -672,7 +672,7 @@ module _ (all : List Lexeme) where
   at_and : (priors : List UnresolvedDependency) (at : ℕ) (b : Bool) → at < length all → stands is_and all at ≡ b → after priors (lines.dependency_list all at) ≡ is_ok (ends.subsequents_end all at)
   at_and priors at true within is =
       no_subsequent priors at (made.parts_stop true is_and lines.dependency all at [] at (made.parts_start true is_and lines.dependency all at [] refl) within is)
-      (no_dependency at (only is_and is_star kind.And and_is refl (slice_get all at) is) (only is_and is_paren_open kind.And and_is refl (slice_get all at) is) (only is_and is_name kind.And and_is refl (slice_get all at) is))
+      (no_dependency at (only is_and is_star kind.And and_is refl (slice_get all at) is) (only is_and is_paren_open kind.And and_is refl (slice_get all at) is) (only is_and is_name_kind kind.And and_is refl (slice_get all at) is))
   at_and priors at false within is = one_subsequent priors at (lines.dependency all at) (dependency_end all at) within is refl (dependency_alike at)
 
   subsequents_is : (priors : List UnresolvedDependency) (at : ℕ) → after priors (lines.dependency_list all at) ≡ is_ok (ends.subsequents_end all at)
@@ -681,7 +681,7 @@ module _ (all : List Lexeme) where
     | inr out ↦
         let none = slice_get_past all at (omega (arith, out)) in
         no_subsequent priors at (made.parts_past is_and lines.dependency all at [] at (made.parts_start true is_and lines.dependency all at [] refl) (omega (arith, out)))
-        (no_dependency at (ap (stands_there is_star) none) (ap (stands_there is_paren_open) none) (ap (stands_there is_name) none))
+        (no_dependency at (ap (stands_there is_star) none) (ap (stands_there is_paren_open) none) (ap (stands_there is_name_kind) none))
   ]
 
   -- Both sides.
@@ -690,7 +690,7 @@ module _ (all : List Lexeme) where
   side_by true priors at = refl
   side_by false priors at = subsequents_is priors (at + 1)
 
-  sides_of : (at : ℕ) (o : Listing) (r : Result ℕ ℕ) → Both true all at o r → is_some (heading.with_priors all o) ≡ is_ok (goes_on r (λ end. if end == length all then Ok end else ends.subsequents_end all (end + 1)))
+  sides_of : (at : ℕ) (o : Listing) (r : Result ℕ ℕ) → Both true all at o r → is_some (heading.with_priors all o) ≡ is_ok (goes_on_from r (λ end. if end == length all then Ok end else ends.subsequents_end all (end + 1)))
   sides_of at None (Ok end) both = absurd both
   sides_of at None (Err e) both = refl
   sides_of at (Some found) (Err e) both = absurd both
@@ -706,7 +706,7 @@ module _ (all : List Lexeme) where
   with_sides quiet name ps None = refl
   with_sides quiet name ps (Some it) = refl
 
-  after_by : (quiet : Bool) (name : Name) (at : ℕ) (o : Option (List Parameter × ℕ)) (r : Result ℕ ℕ) → Both false all at o r → is_some (heading.with_parameters all quiet name o) ≡ is_ok (goes_on r (λ colon. ends.sides_end all (colon + 1)))
+  after_by : (quiet : Bool) (name : Name) (at : ℕ) (o : Option (List Parameter × ℕ)) (r : Result ℕ ℕ) → Both false all at o r → is_some (heading.with_parameters all quiet name o) ≡ is_ok (goes_on_from r (λ colon. ends.sides_end all (colon + 1)))
   after_by quiet name at None (Ok end) both = absurd both
   after_by quiet name at None (Err e) both = refl
   after_by quiet name at (Some found) (Err e) both = absurd both
@@ -714,20 +714,20 @@ module _ (all : List Lexeme) where
       subst (λ n. is_some (heading.with_parameters all quiet name (Some found)) ≡ is_ok (ends.sides_end all (n + 1))) both.0
       (with_sides quiet name found.0 (heading.dependencies all (found.1 + 1)) ∙ sides_is (found.1 + 1))
 
-  after_is : (quiet : Bool) (name : Name) (at : ℕ) → is_some (heading.after_name all quiet name at) ≡ is_ok (goes_on (parts_end false is_colon (part_end part_kind.Parameter) all at) (λ colon. ends.sides_end all (colon + 1)))
+  after_is : (quiet : Bool) (name : Name) (at : ℕ) → is_some (heading.after_name all quiet name at) ≡ is_ok (goes_on_from (parts_end false is_colon (part_end part_kind.Parameter) all at) (λ colon. ends.sides_end all (colon + 1)))
   unfolding heading.after_name
   after_is quiet name at = after_by quiet name at (heading.parameters all at) (parts_end false is_colon (part_end part_kind.Parameter) all at) (parameters_both at)
 
   headed : (quiet : Bool) (at : ℕ)
-      → is_some (heading.heading_at all quiet at (name_at all at)) ≡ is_ok (goes_on (mark_end is_name all at) (λ at. goes_on (parts_end false is_colon (part_end part_kind.Parameter) all at) (λ colon. ends.sides_end all (colon + 1))))
+      → is_some (heading.heading_at all quiet at (read_name_at all at)) ≡ is_ok (goes_on_from (mark_end is_name_kind all at) (λ at. goes_on_from (parts_end false is_colon (part_end part_kind.Parameter) all at) (λ colon. ends.sides_end all (colon + 1))))
   headed quiet at =
-      named all at (heading.heading_at all quiet at) (λ at. goes_on (parts_end false is_colon (part_end part_kind.Parameter) all at) (λ colon. ends.sides_end all (colon + 1))) refl (λ name. after_is quiet name (at + 1))
+      named all at (heading.heading_at all quiet at) (λ at. goes_on_from (parts_end false is_colon (part_end part_kind.Parameter) all at) (λ colon. ends.sides_end all (colon + 1))) refl (λ name. after_is quiet name (at + 1))
 
-  head_by : (b quiet : Bool) → is_some (if b then heading.heading_at all quiet 1 (name_at all 1) else heading.heading_at all quiet 0 (name_at all 0))
-      ≡ is_ok (goes_on (mark_end is_name all (if b then 1 else 0)) (λ at. goes_on (parts_end false is_colon (part_end part_kind.Parameter) all at) (λ colon. ends.sides_end all (colon + 1))))
+  head_by : (b quiet : Bool) → is_some (if b then heading.heading_at all quiet 1 (read_name_at all 1) else heading.heading_at all quiet 0 (read_name_at all 0))
+      ≡ is_ok (goes_on_from (mark_end is_name_kind all (if b then 1 else 0)) (λ at. goes_on_from (parts_end false is_colon (part_end part_kind.Parameter) all at) (λ colon. ends.sides_end all (colon + 1))))
   head_by true quiet = headed quiet 1
   head_by false quiet = headed quiet 0
 
-  pub headings_agree : is_some (heading.heading all) ≡ is_ok (ends.heading_end all)
-  unfolding heading.heading ends.heading_end
+  pub headings_agree : is_some (heading.heading_in_line all) ≡ is_ok (ends.heading_end all)
+  unfolding heading.heading_in_line ends.heading_end
   headings_agree = head_by (stands is_at_sign all 0) (stands is_at_sign all 0)

@@ -23,12 +23,12 @@ use Rattle.just_names.specs.Token.{lexeme}
 use Rattle.just_bench_expressions.specs.Expressions as spec
 use Rattle.just_bench_expressions.specs.Lexemes.{between_quotes}
 use Rattle.just_bench_expressions.specs.Spelling.{is_plus}
-use Rattle.just_bench_expressions.specs.Stack.{top}
+use Rattle.just_bench_expressions.specs.Stack.{list_top}
 use Rattle.just_bench_lines.specs.Definitions.{ends_line, listed, listed_by, listed_layer, program_of, whole_expression}
 use Rattle.just_bench_lines.specs.Places.{is_bracket_close, is_bracket_open, stands, stands_there}
 use Rattle.just_bench_lines.proofs.Fronts.{front}
 use Rattle.just_bench_lines.proofs.Programs.{list_listed}
-use Rattle.just_bench_stops.specs.Marks.{goes_on, line_end, mark_end}
+use Rattle.just_bench_stops.specs.Marks.{goes_on_from, line_end, mark_end}
 
 -- what is no list is no program
 unlisted : (layer : Shape-F Shape Expression) (s : Shape) → roll-Shape layer ≡ s → listed_layer layer ≡ None → listed s ≡ None
@@ -38,8 +38,8 @@ unlisted layer s rolls none = ap listed (sym rolls) ∙ ap listed_layer (out-rol
 no_text : (cooked : List ℕ) → listed (shape.StringLiteral cooked) ≡ None
 no_text cooked = unlisted (Shape-F.StringLiteral cooked) (shape.StringLiteral cooked) (shape.rolls-StringLiteral cooked) refl
 
-no_variable : (l : Lexeme) → listed (shape.Variable (spec.name_of l) None) ≡ None
-no_variable l = unlisted (Shape-F.Variable (spec.name_of l) None) (shape.Variable (spec.name_of l) None) (shape.rolls-Variable (spec.name_of l) None) refl
+no_variable : (l : Lexeme) → listed (shape.Variable (spec.lexeme_name l) None) ≡ None
+no_variable l = unlisted (Shape-F.Variable (spec.lexeme_name l) None) (shape.Variable (spec.lexeme_name l) None) (shape.rolls-Variable (spec.lexeme_name l) None) refl
 
 no_group : (e : Expression) → listed (shape.Group e) ≡ None
 no_group e = unlisted (Shape-F.Group e) (shape.Group e) (shape.rolls-Group e) refl
@@ -111,15 +111,15 @@ module _ (all : List Lexeme) where
   unfolding spec.with_shape
   shape_in at end s it b = record { base = b; deep = deep_by s.outer ready.Read b tt; full = refl }
 
-  opened_in : (at : ℕ) (s : State) (b : Bracket) (r : Ready) → Base s.outer → Full r None → Inside (spec.opened at s b r)
-  unfolding spec.opened
+  opened_in : (at : ℕ) (s : State) (b : Bracket) (r : Ready) → Base s.outer → Full r None → Inside (spec.opened_level at s b r)
+  unfolding spec.opened_level
   opened_in at s b r base f =
       let level : Level = record { bracket = b; at = at; elements = s.elements; sum = s.sum; start = s.start } in
       record { base = base_more level s.outer base; deep = deep_more level s.outer r base; full = f }
 
-  named_in : (at end : ℕ) (s : State) (l : Lexeme) (call : Bool) → Base s.outer → Inside (spec.named all at end s l call)
-  named_in at end s l true b = opened_in at s (bracket.Call (spec.name_of l)) ready.Calls b tt
-  named_in at end s l false b = shape_in at end s (shape.Variable (spec.name_of l) None) b
+  named_in : (at end : ℕ) (s : State) (l : Lexeme) (call : Bool) → Base s.outer → Inside (spec.named_expression all at end s l call)
+  named_in at end s l true b = opened_in at s (bracket.Call (spec.lexeme_name l)) ready.Calls b tt
+  named_in at end s l false b = shape_in at end s (shape.Variable (spec.lexeme_name l) None) b
 
   begun_by_in : (k : Kind) (at end : ℕ) (s : State) (l : Lexeme) (call : Bool) → Base s.outer → IfSome (spec.begun_by k all at end s l call) Inside
   begun_by_in kind.Quoted at end s l call b = shape_in at end s (shape.StringLiteral (between_quotes (lexeme l.token))) b
@@ -128,8 +128,8 @@ module _ (all : List Lexeme) where
   begun_by_in kind.BracketOpen at end s l call b = opened_in at s bracket.List ready.Opens b tt
   begun_by_in _ at end s l call b = tt
 
-  begun_in : (at end : ℕ) (s : State) (l : Lexeme) (call : Bool) → Base s.outer → IfSome (spec.begun all at end s l call) Inside
-  unfolding spec.begun
+  begun_in : (at end : ℕ) (s : State) (l : Lexeme) (call : Bool) → Base s.outer → IfSome (spec.begun_expression all at end s l call) Inside
+  unfolding spec.begun_expression
   begun_in at end s l call b = begun_by_in l.kind at end s l call b
 
   -- at the end of a level
@@ -206,15 +206,15 @@ module _ (all : List Lexeme) where
   calls_open (level ∷ next ∷ outer) h = tt
 
   step_by_next : (r : Ready) (at end : ℕ) (s : State) (l : Lexeme) (call : Bool) → Base s.outer → Deep s.outer r → Full r s.sum → IfSome (spec.step_by r all at end s l call) Next
-  step_by_next ready.Wants at end s l call b d f = each_next (spec.begun all at end s l call) (begun_in at end s l call b)
+  step_by_next ready.Wants at end s l call b d f = each_next (spec.begun_expression all at end s l call) (begun_in at end s l call b)
   step_by_next ready.Opens at end s l call b d f =
-      if_some Next (spec.ends_level s l.kind) (spec.closed all end s) (spec.begun all at end s l call) (closed_then end s b (bottom_opens s.outer s.sum d))
-      (each_next (spec.begun all at end s l call) (begun_in at end s l call b))
+      if_some Next (spec.ends_level s l.kind) (spec.closed all end s) (spec.begun_expression all at end s l call) (closed_then end s b (bottom_opens s.outer s.sum d))
+      (each_next (spec.begun_expression all at end s l call) (begun_in at end s l call b))
   step_by_next ready.Calls at end s l call b d f = inl (record { base = b; deep = calls_open s.outer d; full = tt })
   step_by_next ready.Read at end s l call b d f = followed_next end s l.kind b f
 
-  step_next : (at end : ℕ) (s : State) (l : Lexeme) (call : Bool) → Inside s → IfSome (spec.step all at end s l call) Next
-  unfolding spec.step
+  step_next : (at end : ℕ) (s : State) (l : Lexeme) (call : Bool) → Inside s → IfSome (spec.read_step all at end s l call) Next
+  unfolding spec.read_step
   step_next at end s l call i = step_by_next s.ready at end s l call i.base i.deep i.full
 
 -- In what comes to no list.
@@ -280,16 +280,16 @@ module _ (all : List Lexeme) where
   turned s b (inl h) = inr h
   turned s b (inr h) = inl h
 
-  opened_other : (at : ℕ) (s : State) (b : Bracket) (r : Ready) → Outermost s.outer (Begins s (is_list b)) → Other (spec.opened at s b r)
-  unfolding spec.opened
+  opened_other : (at : ℕ) (s : State) (b : Bracket) (r : Ready) → Outermost s.outer (Begins s (is_list b)) → Other (spec.opened_level at s b r)
+  unfolding spec.opened_level
   opened_other at s b r h =
       let level : Level = record { bracket = b; at = at; elements = s.elements; sum = s.sum; start = s.start } in
       pushed (Begins s (is_list b)) (OtherEnd r None) level s.outer (turned s b) h
 
-  named_other : (at end : ℕ) (s : State) (l : Lexeme) (call b : Bool) → Outermost s.outer (Begins s b) → Other (spec.named all at end s l call)
-  named_other at end s l true b h = opened_other at s (bracket.Call (spec.name_of l)) ready.Calls (by_end (Begins s b) (Begins s false) s.outer (λ _. inr refl) h)
+  named_other : (at end : ℕ) (s : State) (l : Lexeme) (call b : Bool) → Outermost s.outer (Begins s b) → Other (spec.named_expression all at end s l call)
+  named_other at end s l true b h = opened_other at s (bracket.Call (spec.lexeme_name l)) ready.Calls (by_end (Begins s b) (Begins s false) s.outer (λ _. inr refl) h)
   named_other at end s l false b h =
-      shape_other at end s (shape.Variable (spec.name_of l) None) (by_end (Begins s b) (Fits s.sum (shape.Variable (spec.name_of l) None)) s.outer (λ _. inr (no_variable l)) h)
+      shape_other at end s (shape.Variable (spec.lexeme_name l) None) (by_end (Begins s b) (Fits s.sum (shape.Variable (spec.lexeme_name l) None)) s.outer (λ _. inr (no_variable l)) h)
 
   begun_by_other : (k : Kind) (at end : ℕ) (s : State) (l : Lexeme) (call : Bool) → Outermost s.outer (Begins s (is_bracket_open k)) → IfSome (spec.begun_by k all at end s l call) Other
   begun_by_other kind.Quoted at end s l call h =
@@ -300,11 +300,11 @@ module _ (all : List Lexeme) where
   begun_by_other kind.BracketOpen at end s l call h = opened_other at s bracket.List ready.Opens h
   begun_by_other _ at end s l call h = tt
 
-  begun_other : (at end : ℕ) (s : State) (l : Lexeme) (call : Bool) → Outermost s.outer (Begins s (is_bracket_open l.kind)) → IfSome (spec.begun all at end s l call) Other
-  unfolding spec.begun
+  begun_other : (at end : ℕ) (s : State) (l : Lexeme) (call : Bool) → Outermost s.outer (Begins s (is_bracket_open l.kind)) → IfSome (spec.begun_expression all at end s l call) Other
+  unfolding spec.begun_expression
   begun_other at end s l call h = begun_by_other l.kind at end s l call h
 
-  closing_group : (before : Option Expression) (o : Option Expression) → IfSome (spec.group_of o) (λ it. Fits before it)
+  closing_group : (before : Option Expression) (o : Option Expression) → IfSome (spec.group_shape o) (λ it. Fits before it)
   closing_group before None = tt
   closing_group before (Some e) = inr (no_group e)
 
@@ -344,10 +344,10 @@ module _ (all : List Lexeme) where
   closed_other E end s h = closed_in_other E s.outer end s h
 
   comma_other : (E : Type 0) (outer : List Level) (elements : List Expression) → Outermost outer E
-      → IfSome (if spec.has_elements_in (top outer) then Some (record { outer = outer; elements = elements; sum = None; start = 0; ready = ready.Wants }) else None) Other
+      → IfSome (if spec.has_elements_in (list_top outer) then Some (record { outer = outer; elements = elements; sum = None; start = 0; ready = ready.Wants }) else None) Other
   comma_other E [] elements h = tt
   comma_other E (level ∷ outer) elements h =
-      if_some Other (spec.has_elements_in (top (level ∷ outer))) (Some (record { outer = level ∷ outer; elements = elements; sum = None; start = 0; ready = ready.Wants })) None
+      if_some Other (spec.has_elements_in (list_top (level ∷ outer))) (Some (record { outer = level ∷ outer; elements = elements; sum = None; start = 0; ready = ready.Wants })) None
       (same_end E (OtherEnd ready.Wants None) level outer h) tt
 
   sum_some : (sum : Option Expression) → OtherSum sum → is_some sum ≡ true
@@ -366,13 +366,13 @@ module _ (all : List Lexeme) where
   step_by_other : (r : Ready) (at end : ℕ) (s : State) (l : Lexeme) (call : Bool) → Outermost s.outer (OtherEnd r s.sum) → IfSome (spec.step_by r all at end s l call) Other
   step_by_other ready.Wants at end s l call h = begun_other at end s l call (by_end (is_some s.sum ≡ true) (Begins s (is_bracket_open l.kind)) s.outer (λ some. inl some) h)
   step_by_other ready.Opens at end s l call h =
-      if_some Other (spec.ends_level s l.kind) (spec.closed all end s) (spec.begun all at end s l call) (closed_other ⊥ end s h)
+      if_some Other (spec.ends_level s l.kind) (spec.closed all end s) (spec.begun_expression all at end s l call) (closed_other ⊥ end s h)
       (begun_other at end s l call (by_end ⊥ (Begins s (is_bracket_open l.kind)) s.outer (λ none. absurd none) h))
   step_by_other ready.Calls at end s l call h = h
   step_by_other ready.Read at end s l call h = followed_other end s l.kind h
 
-  step_other : (at end : ℕ) (s : State) (l : Lexeme) (call : Bool) → Other s → IfSome (spec.step all at end s l call) Other
-  unfolding spec.step
+  step_other : (at end : ℕ) (s : State) (l : Lexeme) (call : Bool) → Other s → IfSome (spec.read_step all at end s l call) Other
+  unfolding spec.read_step
   step_other at end s l call h = step_by_other s.ready at end s l call h
 
   -- what is read from there on
@@ -383,12 +383,12 @@ module _ (all : List Lexeme) where
   found_other at None h = tt
   found_other at (Some e) h = h
 
-  read_other_end : (at : ℕ) (outer : List Level) (sum : Option Expression) → Outermost outer (OtherSum sum) → IfSome (if spec.is_outermost (top outer) then spec.found_at at sum else None) NoList
+  read_other_end : (at : ℕ) (outer : List Level) (sum : Option Expression) → Outermost outer (OtherSum sum) → IfSome (if spec.is_outermost (list_top outer) then spec.found_at at sum else None) NoList
   read_other_end at [] sum h = found_other at sum h
   read_other_end at (level ∷ outer) sum h = tt
 
   finished_by_other : (r : Ready) (at : ℕ) (outer : List Level) (sum : Option Expression) → Outermost outer (OtherEnd r sum)
-      → IfSome (if spec.is_read r then (if spec.is_outermost (top outer) then spec.found_at at sum else None) else None) NoList
+      → IfSome (if spec.is_read r then (if spec.is_outermost (list_top outer) then spec.found_at at sum else None) else None) NoList
   finished_by_other ready.Read at outer sum h = read_other_end at outer sum h
   finished_by_other ready.Wants at outer sum h = tt
   finished_by_other ready.Opens at outer sum h = tt
@@ -401,9 +401,9 @@ module _ (all : List Lexeme) where
   read_other : (sums : Bool) (at : ℕ) (s : State) (rest : List Lexeme) → Other s → IfSome (spec.read sums all at s rest) NoList
   read_other sums at s [] h = finished_by_other s.ready at s.outer s.sum h
   read_other sums at s (l ∷ rest) h =
-      if_some NoList (spec.stops sums s l.kind) (spec.finished at s) (spec.onward (spec.step all at (at + 1) s l (spec.calls rest)) (λ next. spec.read sums all (at + 1) next rest))
+      if_some NoList (spec.stops sums s l.kind) (spec.finished at s) (spec.onward (spec.read_step all at (at + 1) s l (spec.opens_call rest)) (λ next. spec.read sums all (at + 1) next rest))
       (finished_by_other s.ready at s.outer s.sum h)
-      (onward_other (spec.step all at (at + 1) s l (spec.calls rest)) (λ next. spec.read sums all (at + 1) next rest) (step_other at (at + 1) s l (spec.calls rest) h)
+      (onward_other (spec.read_step all at (at + 1) s l (spec.opens_call rest)) (λ next. spec.read sums all (at + 1) next rest) (step_other at (at + 1) s l (spec.opens_call rest) h)
       (λ next k. read_other sums (at + 1) next rest k))
 
   -- such an expression is no program, wherever it ends
@@ -417,9 +417,9 @@ module _ (all : List Lexeme) where
 
   -- Both readings together.
   abbrev Agree : Option Found → Result ℕ ℕ → Type 0
-  Agree found end = is_some (listed_by (ends_line all found)) ≡ is_ok (goes_on end (line_end all))
+  Agree found end = is_some (listed_by (ends_line all found)) ≡ is_ok (goes_on_from end (line_end all))
 
-  not_outermost : (outer : List Level) → Base outer → spec.is_outermost (top outer) ≡ false
+  not_outermost : (outer : List Level) → Base outer → spec.is_outermost (list_top outer) ≡ false
   not_outermost [] b = absurd b
   not_outermost (level ∷ outer) b = refl
 
@@ -443,11 +443,11 @@ module _ (all : List Lexeme) where
   onward_agree at (Some s) more end h k = k s h
 
   finished_is : (at : ℕ) (r : Ready) (outer : List Level) (sum : Option Expression) (made : Expression) → r ≡ ready.Read → outer ≡ [] → sum ≡ Some made
-      → (if spec.is_read r then (if spec.is_outermost (top outer) then spec.found_at at sum else None) else None) ≡ Some (record { made = made; end = at })
+      → (if spec.is_read r then (if spec.is_outermost (list_top outer) then spec.found_at at sum else None) else None) ≡ Some (record { made = made; end = at })
   finished_is at r outer sum made read none is = rw (read, none, is) refl
 
   stops_is : (sums : Bool) (k : Kind) (r : Ready) (outer : List Level) → r ≡ ready.Read → outer ≡ []
-      → (if spec.is_read r then (if spec.is_outermost (top outer) then not (sums && is_plus k) else false) else false) ≡ not (sums && is_plus k)
+      → (if spec.is_read r then (if spec.is_outermost (list_top outer) then not (sums && is_plus k) else false) else false) ≡ not (sums && is_plus k)
   stops_is sums k r outer read none = rw (read, none) refl
 
   program_by : (b : Bool) (at : ℕ) (made : Expression) → is_some (listed made.shape) ≡ true → is_some (listed_by (if b then Some made else None)) ≡ is_ok {E = ℕ} (if b then Ok at else Err at)
@@ -463,8 +463,8 @@ module _ (all : List Lexeme) where
   unfolding spec.followed
   followed_plus end s k is h = if_some Other (spec.ends_level s k) (spec.closed all end s) (spec.continued k s) (closed_other (is_some s.sum ≡ true) end s h) (plus_other k s is h)
 
-  step_plus : (at end : ℕ) (s : State) (l : Lexeme) (call : Bool) → Whole s → is_plus l.kind ≡ true → IfSome (spec.step all at end s l call) Other
-  unfolding spec.step
+  step_plus : (at end : ℕ) (s : State) (l : Lexeme) (call : Bool) → Whole s → is_plus l.kind ≡ true → IfSome (spec.read_step all at end s l call) Other
+  unfolding spec.read_step
   step_plus at end s l call w is =
       let h : Outermost s.outer (is_some s.sum ≡ true) = subst (λ o. Outermost o (is_some s.sum ≡ true)) (sym w.none) (ap is_some w.is) in
       subst (λ r. IfSome (spec.step_by r all at end s l call) Other) (sym w.read) (followed_plus end s l.kind is h)
@@ -482,21 +482,21 @@ module _ (all : List Lexeme) where
   sum_by : (p : Bool) (at : ℕ) (s : State) (l : Lexeme) (rest : List Lexeme) → is_plus l.kind ≡ p → at < length all → Whole s → is_some (listed_by (ends_line all (spec.read true all at s (l ∷ rest)))) ≡ false
   sum_by true at s l rest is less w =
       let on : spec.stops true s l.kind ≡ false = stops_is true l.kind s.ready s.outer w.read w.none ∙ ap not is in
-      ap (λ b. is_some (listed_by (ends_line all (if b then spec.finished at s else spec.onward (spec.step all at (at + 1) s l (spec.calls rest)) (λ next. spec.read true all (at + 1) next rest))))) on
-      ∙ no_program (spec.onward (spec.step all at (at + 1) s l (spec.calls rest)) (λ next. spec.read true all (at + 1) next rest))
-      (onward_other (spec.step all at (at + 1) s l (spec.calls rest)) (λ next. spec.read true all (at + 1) next rest) (step_plus at (at + 1) s l (spec.calls rest) w is) (λ next k. read_other true (at + 1) next rest k))
+      ap (λ b. is_some (listed_by (ends_line all (if b then spec.finished at s else spec.onward (spec.read_step all at (at + 1) s l (spec.opens_call rest)) (λ next. spec.read true all (at + 1) next rest))))) on
+      ∙ no_program (spec.onward (spec.read_step all at (at + 1) s l (spec.opens_call rest)) (λ next. spec.read true all (at + 1) next rest))
+      (onward_other (spec.read_step all at (at + 1) s l (spec.opens_call rest)) (λ next. spec.read true all (at + 1) next rest) (step_plus at (at + 1) s l (spec.opens_call rest) w is) (λ next k. read_other true (at + 1) next rest k))
   sum_by false at s l rest is less w =
       let off : spec.stops true s l.kind ≡ true = stops_is true l.kind s.ready s.outer w.read w.none ∙ ap not is in
-      ap (λ b. is_some (listed_by (ends_line all (if b then spec.finished at s else spec.onward (spec.step all at (at + 1) s l (spec.calls rest)) (λ next. spec.read true all (at + 1) next rest))))) off
+      ap (λ b. is_some (listed_by (ends_line all (if b then spec.finished at s else spec.onward (spec.read_step all at (at + 1) s l (spec.opens_call rest)) (λ next. spec.read true all (at + 1) next rest))))) off
       ∙ ap (λ f. is_some (listed_by (ends_line all f))) (finished_is at s.ready s.outer s.sum w.made w.read w.none w.is) ∙ cut_short at w.made less
 
-  end_is : (at : ℕ) (s : State) (l : Lexeme) (rest : List Lexeme) → at < length all → Whole s → is_ok (goes_on (spec.end_from false all at s (l ∷ rest)) (line_end all)) ≡ false
+  end_is : (at : ℕ) (s : State) (l : Lexeme) (rest : List Lexeme) → at < length all → Whole s → is_ok (goes_on_from (spec.read_end false all at s (l ∷ rest)) (line_end all)) ≡ false
   end_is at s l rest less w =
-      ap (λ b. is_ok (goes_on (if b then spec.end_at at (spec.finished at s) else spec.end_onward at (spec.step all at (at + 1) s l (spec.calls rest)) (λ next. spec.end_from false all (at + 1) next rest)) (line_end all)))
+      ap (λ b. is_ok (goes_on_from (if b then spec.end_at at (spec.finished at s) else spec.end_onward at (spec.read_step all at (at + 1) s l (spec.opens_call rest)) (λ next. spec.read_end false all (at + 1) next rest)) (line_end all)))
       (stops_is false l.kind s.ready s.outer w.read w.none)
-      ∙ ap (λ f. is_ok (goes_on (spec.end_at at f) (line_end all))) (finished_is at s.ready s.outer s.sum w.made w.read w.none w.is) ∙ goes_short at less
+      ∙ ap (λ f. is_ok (goes_on_from (spec.end_at at f) (line_end all))) (finished_is at s.ready s.outer s.sum w.made w.read w.none w.is) ∙ goes_short at less
 
-  whole_agree : (at : ℕ) (s : State) (rest : List Lexeme) → at + length rest ≡ length all → Whole s → Agree (spec.read true all at s rest) (spec.end_from false all at s rest)
+  whole_agree : (at : ℕ) (s : State) (rest : List Lexeme) → at + length rest ≡ length all → Whole s → Agree (spec.read true all at s rest) (spec.read_end false all at s rest)
   whole_agree at s [] h w =
       subst (λ f. Agree f (spec.end_at at f)) (sym (finished_is at s.ready s.outer s.sum w.made w.read w.none w.is)) (program_by (at == length all) at w.made w.program)
   whole_agree at s (l ∷ rest) h w =
@@ -507,23 +507,23 @@ module _ (all : List Lexeme) where
   either P s (inl i) f g = f i
   either P s (inr w) f g = g w
 
-  inside_agree : (at : ℕ) (s : State) (rest : List Lexeme) → at + length rest ≡ length all → Inside s → Agree (spec.read true all at s rest) (spec.end_from false all at s rest)
+  inside_agree : (at : ℕ) (s : State) (rest : List Lexeme) → at + length rest ≡ length all → Inside s → Agree (spec.read true all at s rest) (spec.read_end false all at s rest)
   inside_agree at s [] h i =
-      subst (λ f. Agree f (spec.end_at at f)) (sym (no_end (spec.is_read s.ready) (spec.is_outermost (top s.outer)) (spec.found_at at s.sum) (not_outermost s.outer i.base))) refl
+      subst (λ f. Agree f (spec.end_at at f)) (sym (no_end (spec.is_read s.ready) (spec.is_outermost (list_top s.outer)) (spec.found_at at s.sum) (not_outermost s.outer i.base))) refl
   inside_agree at s (l ∷ rest) h i =
       let out = not_outermost s.outer i.base in
-      both_on (spec.stops true s l.kind) (spec.stops false s l.kind) (spec.finished at s) (spec.onward (spec.step all at (at + 1) s l (spec.calls rest)) (λ next. spec.read true all (at + 1) next rest))
-      (spec.end_at at (spec.finished at s)) (spec.end_onward at (spec.step all at (at + 1) s l (spec.calls rest)) (λ next. spec.end_from false all (at + 1) next rest))
-      (no_stop (spec.is_read s.ready) (spec.is_outermost (top s.outer)) (not (true && is_plus l.kind)) out)
-      (no_stop (spec.is_read s.ready) (spec.is_outermost (top s.outer)) (not (false && is_plus l.kind)) out)
-      (onward_agree at (spec.step all at (at + 1) s l (spec.calls rest)) (λ next. spec.read true all (at + 1) next rest) (λ next. spec.end_from false all (at + 1) next rest)
-      (step_next all at (at + 1) s l (spec.calls rest) i)
-      (λ next n. either (Agree (spec.read true all (at + 1) next rest) (spec.end_from false all (at + 1) next rest)) next n
+      both_on (spec.stops true s l.kind) (spec.stops false s l.kind) (spec.finished at s) (spec.onward (spec.read_step all at (at + 1) s l (spec.opens_call rest)) (λ next. spec.read true all (at + 1) next rest))
+      (spec.end_at at (spec.finished at s)) (spec.end_onward at (spec.read_step all at (at + 1) s l (spec.opens_call rest)) (λ next. spec.read_end false all (at + 1) next rest))
+      (no_stop (spec.is_read s.ready) (spec.is_outermost (list_top s.outer)) (not (true && is_plus l.kind)) out)
+      (no_stop (spec.is_read s.ready) (spec.is_outermost (list_top s.outer)) (not (false && is_plus l.kind)) out)
+      (onward_agree at (spec.read_step all at (at + 1) s l (spec.opens_call rest)) (λ next. spec.read true all (at + 1) next rest) (λ next. spec.read_end false all (at + 1) next rest)
+      (step_next all at (at + 1) s l (spec.opens_call rest) i)
+      (λ next n. either (Agree (spec.read true all (at + 1) next rest) (spec.read_end false all (at + 1) next rest)) next n
       (λ j. inside_agree (at + 1) next rest (omega (arith, h)) j) (λ w. whole_agree (at + 1) next rest (omega (arith, h)) w)))
 
   -- the first lexemes
   abbrev listing : ℕ → State
-  listing at = spec.opened at spec.unread bracket.List ready.Opens
+  listing at = spec.opened_level at spec.unread bracket.List ready.Opens
 
   if_first : (b : Bool) (x y : Option State) → b ≡ true → IfSome x Other → IfSome (if b then x else y) Other
   if_first true x y is h = h
@@ -538,57 +538,57 @@ module _ (all : List Lexeme) where
   same_close _ = refl
 
   empty_other : (at end : ℕ) → IfSome (spec.closed all end (listing at)) Other
-  unfolding spec.closed spec.opened
+  unfolding spec.closed spec.opened_level
   empty_other at end =
       let level : Level = record { bracket = bracket.List; at = at; elements = []; sum = None; start = 0 } in
       shape_other at end (spec.resumed level [] ready.Opens) (shape.List []) (inr (list_listed []))
 
-  closes_other : (at place end : ℕ) (l : Lexeme) (call : Bool) → is_bracket_close l.kind ≡ true → IfSome (spec.step all place end (listing at) l call) Other
-  unfolding spec.step spec.opened
+  closes_other : (at place end : ℕ) (l : Lexeme) (call : Bool) → is_bracket_close l.kind ≡ true → IfSome (spec.read_step all place end (listing at) l call) Other
+  unfolding spec.read_step spec.opened_level
   closes_other at place end l call is =
-      if_first (spec.is_bracket_close l.kind) (spec.closed all end (listing at)) (spec.begun all place end (listing at) l call) (same_close l.kind ∙ is) (empty_other at end)
+      if_first (spec.is_bracket_close l.kind) (spec.closed all end (listing at)) (spec.begun_expression all place end (listing at) l call) (same_close l.kind ∙ is) (empty_other at end)
 
-  begins_next : (at place end : ℕ) (l : Lexeme) (call : Bool) → is_bracket_close l.kind ≡ false → IfSome (spec.step all place end (listing at) l call) Next
-  unfolding spec.step spec.opened
+  begins_next : (at place end : ℕ) (l : Lexeme) (call : Bool) → is_bracket_close l.kind ≡ false → IfSome (spec.read_step all place end (listing at) l call) Next
+  unfolding spec.read_step spec.opened_level
   begins_next at place end l call is =
-      if_second (spec.is_bracket_close l.kind) (spec.closed all end (listing at)) (spec.begun all place end (listing at) l call) (same_close l.kind ∙ is)
-      (each_next all (spec.begun all place end (listing at) l call) (begun_in all place end (listing at) l call (refl, refl)))
+      if_second (spec.is_bracket_close l.kind) (spec.closed all end (listing at)) (spec.begun_expression all place end (listing at) l call) (same_close l.kind ∙ is)
+      (each_next all (spec.begun_expression all place end (listing at) l call) (begun_in all place end (listing at) l call (refl, refl)))
 
   -- what is to come to a list, from its bracket on
   abbrev listed_end : ℕ → Bool → Result ℕ ℕ → Result ℕ ℕ
-  listed_end inner close end = if close then Err inner else goes_on end (line_end all)
+  listed_end inner close end = if close then Err inner else goes_on_from end (line_end all)
 
   no_more : (b : Bool) (x y : ℕ) → is_ok {T = ℕ} (if b then Err x else Err y) ≡ false
   no_more true x y = refl
   no_more false x y = refl
 
   opened_stops : (sums : Bool) (at : ℕ) (k : Kind) → spec.stops sums (listing at) k ≡ false
-  unfolding spec.opened
+  unfolding spec.opened_level
   opened_stops sums at k = refl
 
   opened_ends : (at place : ℕ) → spec.finished place (listing at) ≡ None
-  unfolding spec.opened
+  unfolding spec.opened_level
   opened_ends at place = refl
 
   abbrev read_on : ℕ → Bool → ℕ → Lexeme → List Lexeme → Option Found
-  read_on at b place l rest = if b then spec.finished place (listing at) else spec.onward (spec.step all place (place + 1) (listing at) l (spec.calls rest)) (λ next. spec.read true all (place + 1) next rest)
+  read_on at b place l rest = if b then spec.finished place (listing at) else spec.onward (spec.read_step all place (place + 1) (listing at) l (spec.opens_call rest)) (λ next. spec.read true all (place + 1) next rest)
 
   abbrev end_on : ℕ → Bool → ℕ → Lexeme → List Lexeme → Result ℕ ℕ
-  end_on at b place l rest = if b then spec.end_at place (spec.finished place (listing at)) else spec.end_onward place (spec.step all place (place + 1) (listing at) l (spec.calls rest)) (λ next. spec.end_from false all (place + 1) next rest)
+  end_on at b place l rest = if b then spec.end_at place (spec.finished place (listing at)) else spec.end_onward place (spec.read_step all place (place + 1) (listing at) l (spec.opens_call rest)) (λ next. spec.read_end false all (place + 1) next rest)
 
   within_by : (at place : ℕ) (l : Lexeme) (rest : List Lexeme) (b : Bool) → place + 1 + length rest ≡ length all → is_bracket_close l.kind ≡ b
       → is_some (listed_by (ends_line all (read_on at false place l rest))) ≡ is_ok (listed_end place b (end_on at false place l rest))
   within_by at place l rest true h is =
-      no_program (spec.onward (spec.step all place (place + 1) (listing at) l (spec.calls rest)) (λ next. spec.read true all (place + 1) next rest))
-      (onward_other (spec.step all place (place + 1) (listing at) l (spec.calls rest)) (λ next. spec.read true all (place + 1) next rest) (closes_other at place (place + 1) l (spec.calls rest) is) (λ next k. read_other true (place + 1) next rest k))
+      no_program (spec.onward (spec.read_step all place (place + 1) (listing at) l (spec.opens_call rest)) (λ next. spec.read true all (place + 1) next rest))
+      (onward_other (spec.read_step all place (place + 1) (listing at) l (spec.opens_call rest)) (λ next. spec.read true all (place + 1) next rest) (closes_other at place (place + 1) l (spec.opens_call rest) is) (λ next k. read_other true (place + 1) next rest k))
   within_by at place l rest false h is =
-      onward_agree place (spec.step all place (place + 1) (listing at) l (spec.calls rest)) (λ next. spec.read true all (place + 1) next rest) (λ next. spec.end_from false all (place + 1) next rest)
-      (begins_next at place (place + 1) l (spec.calls rest) is)
-      (λ next n. either (Agree (spec.read true all (place + 1) next rest) (spec.end_from false all (place + 1) next rest)) next n
+      onward_agree place (spec.read_step all place (place + 1) (listing at) l (spec.opens_call rest)) (λ next. spec.read true all (place + 1) next rest) (λ next. spec.read_end false all (place + 1) next rest)
+      (begins_next at place (place + 1) l (spec.opens_call rest) is)
+      (λ next n. either (Agree (spec.read true all (place + 1) next rest) (spec.read_end false all (place + 1) next rest)) next n
       (λ j. inside_agree (place + 1) next rest h j) (λ w. whole_agree (place + 1) next rest h w))
 
   opened_agree : (at place : ℕ) (ls : List Lexeme) (close : Bool) → place + length ls ≡ length all → ((l : Lexeme) (rest : List Lexeme) → ls ≡ l ∷ rest → is_bracket_close l.kind ≡ close)
-      → is_some (listed_by (ends_line all (spec.read true all place (listing at) ls))) ≡ is_ok (listed_end place close (spec.end_from false all place (listing at) ls))
+      → is_some (listed_by (ends_line all (spec.read true all place (listing at) ls))) ≡ is_ok (listed_end place close (spec.read_end false all place (listing at) ls))
   opened_agree at place [] close h is =
       ap (λ f. is_some (listed_by (ends_line all f))) (opened_ends at place) ∙ sym (ap (λ f. is_ok (listed_end place close (spec.end_at place f))) (opened_ends at place) ∙ no_more close place place)
   opened_agree at place (l ∷ rest) close h is =
@@ -600,28 +600,28 @@ module _ (all : List Lexeme) where
   bracket_opens kind.BracketOpen at end l call h = refl
   bracket_opens _ at end l call h = absurd (false≢true h)
 
-  first_opens : (at end : ℕ) (l : Lexeme) (call : Bool) → is_bracket_open l.kind ≡ true → Some (listing at) ≡ spec.step all at end spec.unread l call
-  unfolding spec.step spec.begun
+  first_opens : (at end : ℕ) (l : Lexeme) (call : Bool) → is_bracket_open l.kind ≡ true → Some (listing at) ≡ spec.read_step all at end spec.unread l call
+  unfolding spec.read_step spec.begun_expression
   first_opens at end l call h = bracket_opens l.kind at end l call h
 
-  first_other : (at end : ℕ) (l : Lexeme) (call : Bool) → is_bracket_open l.kind ≡ false → IfSome (spec.step all at end spec.unread l call) Other
-  unfolding spec.step
+  first_other : (at end : ℕ) (l : Lexeme) (call : Bool) → is_bracket_open l.kind ≡ false → IfSome (spec.read_step all at end spec.unread l call) Other
+  unfolding spec.read_step
   first_other at end l call h = begun_other at end spec.unread l call (inr h)
 
   abbrev whole_end : ℕ → Bool → Result ℕ ℕ → Result ℕ ℕ
-  whole_end at opens end = goes_on (if opens then Ok (at + 1) else Err at) (λ inner. listed_end inner (stands is_bracket_close all inner) end)
+  whole_end at opens end = goes_on_from (if opens then Ok (at + 1) else Err at) (λ inner. listed_end inner (stands is_bracket_close all inner) end)
 
   abbrev first_end : ℕ → List Lexeme → Option State → Result ℕ ℕ
-  first_end at rest o = spec.end_onward at o (λ next. spec.end_from false all (at + 1) next rest)
+  first_end at rest o = spec.end_onward at o (λ next. spec.read_end false all (at + 1) next rest)
 
   front_agree : (at : ℕ) (l : Lexeme) (rest : List Lexeme) (b : Bool) → is_bracket_open l.kind ≡ b → at + 1 + length rest ≡ length all → ((m : Lexeme) (more : List Lexeme) → rest ≡ m ∷ more → is_bracket_close m.kind ≡ stands is_bracket_close all (at + 1))
-      → is_some (listed_by (ends_line all (spec.read true all at spec.unread (l ∷ rest)))) ≡ is_ok (whole_end at b (spec.end_from false all at spec.unread (l ∷ rest)))
+      → is_some (listed_by (ends_line all (spec.read true all at spec.unread (l ∷ rest)))) ≡ is_ok (whole_end at b (spec.read_end false all at spec.unread (l ∷ rest)))
   front_agree at l rest false is h close =
-      no_program (spec.onward (spec.step all at (at + 1) spec.unread l (spec.calls rest)) (λ next. spec.read true all (at + 1) next rest))
-      (onward_other (spec.step all at (at + 1) spec.unread l (spec.calls rest)) (λ next. spec.read true all (at + 1) next rest) (first_other at (at + 1) l (spec.calls rest) is) (λ next k. read_other true (at + 1) next rest k))
+      no_program (spec.onward (spec.read_step all at (at + 1) spec.unread l (spec.opens_call rest)) (λ next. spec.read true all (at + 1) next rest))
+      (onward_other (spec.read_step all at (at + 1) spec.unread l (spec.opens_call rest)) (λ next. spec.read true all (at + 1) next rest) (first_other at (at + 1) l (spec.opens_call rest) is) (λ next k. read_other true (at + 1) next rest k))
   front_agree at l rest true is h close =
       subst (λ o. is_some (listed_by (ends_line all (spec.onward o (λ next. spec.read true all (at + 1) next rest)))) ≡ is_ok (listed_end (at + 1) (stands is_bracket_close all (at + 1)) (first_end at rest o)))
-      (first_opens at (at + 1) l (spec.calls rest) is) (opened_agree at (at + 1) rest (stands is_bracket_close all (at + 1)) h close)
+      (first_opens at (at + 1) l (spec.opens_call rest) is) (opened_agree at (at + 1) rest (stands is_bracket_close all (at + 1)) h close)
 
   second_is : (at : ℕ) (m : Lexeme) (more : List Lexeme) → drop (at + 1) all ≡ m ∷ more → is_bracket_close m.kind ≡ stands is_bracket_close all (at + 1)
   second_is at m more is = elim ((slice_get_cases all (at + 1)).1) [
@@ -634,7 +634,7 @@ module _ (all : List Lexeme) where
   ]
 
   pub lists_agree : (at : ℕ) → is_some (listed_by (whole_expression all at))
-      ≡ is_ok (goes_on (mark_end is_bracket_open all at) (λ inner. if stands is_bracket_close all inner then Err inner else goes_on (spec.expression_end false all at) (line_end all)))
+      ≡ is_ok (goes_on_from (mark_end is_bracket_open all at) (λ inner. if stands is_bracket_close all inner then Err inner else goes_on_from (spec.expression_end false all at) (line_end all)))
   unfolding whole_expression spec.expression spec.expression_end
   lists_agree at = elim ((slice_get_cases all at).1) [
     | inl here ↦
@@ -643,9 +643,9 @@ module _ (all : List Lexeme) where
         let opens : stands is_bracket_open all at ≡ is_bracket_open l.kind = ap (stands_there is_bracket_open) f.1.there in
         ap (λ ls. is_some (listed_by (ends_line all (spec.read true all at spec.unread ls)))) f.1.dropped
         ∙ front_agree at l (drop (at + 1) all) (is_bracket_open l.kind) refl (omega (arith, here.1, length-drop (at + 1) all)) (second_is at)
-        ∙ ap (λ ls. is_ok (whole_end at (is_bracket_open l.kind) (spec.end_from false all at spec.unread ls))) (sym f.1.dropped)
-        ∙ ap (λ b. is_ok (whole_end at b (spec.end_from false all at spec.unread (drop at all)))) (sym opens)
+        ∙ ap (λ ls. is_ok (whole_end at (is_bracket_open l.kind) (spec.read_end false all at spec.unread ls))) (sym f.1.dropped)
+        ∙ ap (λ b. is_ok (whole_end at b (spec.read_end false all at spec.unread (drop at all)))) (sym opens)
     | inr past ↦
         ap (λ ls. is_some (listed_by (ends_line all (spec.read true all at spec.unread ls)))) (drop_all at all past.0)
-        ∙ sym (ap (λ o. is_ok (whole_end at (stands_there is_bracket_open o) (spec.end_from false all at spec.unread (drop at all)))) past.1)
+        ∙ sym (ap (λ o. is_ok (whole_end at (stands_there is_bracket_open o) (spec.read_end false all at spec.unread (drop at all)))) past.1)
   ]

@@ -14,9 +14,9 @@ use Rattle.just_bench_lines.specs.declared.meaning.Statement.{Statement}
 use Rattle.just_bench_lines.specs.declared.meaning.Statement.TheVariants as statements
 use Rattle.just_bench_lines.specs.Alias.{alias_line}
 use Rattle.just_bench_lines.specs.Attributes.{attribute}
-use Rattle.just_bench_lines.specs.Body.{before_others, body_line, interpolated, interpolation, interpolation_of, line_of, part, parts_from}
+use Rattle.just_bench_lines.specs.Body.{before_others, body_line, interpolated, interpolation, interpolation_of, line_of_parts, part, parts_from}
 use Rattle.just_bench_lines.specs.Definitions as definitions
-use Rattle.just_bench_lines.specs.Heading.{heading}
+use Rattle.just_bench_lines.specs.Heading.{heading_in_line}
 use Rattle.just_bench_lines.specs.Meaning as meaning
 use Rattle.just_bench_lines.proofs.Apart.{aliases_told, assignments_stated, functions_stated, headings_told, imports_stated, marks_told, modules_told, sets_stated, statements_told, unexports_stated}
 use Rattle.just_bench_stops.specs.declared.stops.Form.{Form}
@@ -63,7 +63,7 @@ module _ (all : List Lexeme) (bad : meaning.sorted all ≡ meanings.Bad) where
   bad_unended form.Function = unread (definitions.function all) _ (functions all) (λ f is. no_statement (statements.Defines f) (functions_stated all f is))
   bad_unended form.Alias = unread (alias_line all) _ (aliases all) (λ a is. let told = aliases_told all a is in cc)
   bad_unended form.Attribute = unread (attribute all) _ (attributes_agree all) (λ m is. let told = marks_told all m is in cc)
-  bad_unended form.Heading = unread (heading all) _ (headings_agree all) (λ h is. let told = headings_told all h is in cc)
+  bad_unended form.Heading = unread (heading_in_line all) _ (headings_agree all) (λ h is. let told = headings_told all h is in cc)
 
 -- what is not read is not there
 none_read : {A : Type 0} (o : Option A) → is_some o ≡ false → o ≡ None
@@ -111,9 +111,9 @@ module _ (all : List Lexeme) (unended : (it : Form) → is_ok (form_end it all) 
   unfolding form_end
   no_attribute = none_read (attribute all) (attributes_agree all ∙ unended form.Attribute)
 
-  no_heading : heading all ≡ None
+  no_heading : heading_in_line all ≡ None
   unfolding form_end
-  no_heading = none_read (heading all) (headings_agree all ∙ unended form.Heading)
+  no_heading = none_read (heading_in_line all) (headings_agree all ∙ unended form.Heading)
 
   none_stated : meaning.statement all ≡ None
   unfolding meaning.statement
@@ -178,7 +178,7 @@ parts_or_bad one at zero (b ∷ rest) = parted at (one at) (λ n. parts_from one
 pub lines_or_bad : (path text : List ℕ) (line : TextLine) (start : ℕ) → is_some (body_line path text line start) ≡ not (is_some (bad_part path text line start))
 unfolding body_line bad_part
 lines_or_bad path text line start =
-    mapped (line_of line.number) (parts_from (part path text line) start 0 (drop start line.text)) ∙ parts_or_bad (part path text line) start 0 (drop start line.text)
+    mapped (line_of_parts line.number) (parts_from (part path text line) start 0 (drop start line.text)) ∙ parts_or_bad (part path text line) start 0 (drop start line.text)
 
 -- An interpolation is one exactly where its parts are all lexemes and its expression goes to its end.
 interpolation_by : (end : ℕ) (o : Option (List Lexeme)) → is_some (interpolation_of end o) ≡ (is_some o && is_ok (whole_end (or_nothing o) 0))

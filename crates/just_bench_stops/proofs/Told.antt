@@ -11,13 +11,13 @@ use Rattle.just_bench_expressions.specs.declared.lexer.Kind.{Kind}
 use Rattle.just_bench_expressions.specs.declared.lexer.Kind.TheVariants as kind
 use Rattle.just_bench_expressions.specs.declared.lexer.Lexeme.{Lexeme}
 use Rattle.just_bench_expressions.specs.declared.lines.TextLine.{TextLine}
-use Rattle.just_bench_expressions.specs.Lexemes.{is_blank, is_quote, quoted, double_mark, single_mark, mark, first, place, before, lexemes_from, lexemes, lexed_from, lexed_to, past}
+use Rattle.just_bench_expressions.specs.Lexemes.{is_blank, is_quote, quoted, double_mark, single_mark, mark, first, lexeme_place, before, lexemes_from, lexemes, lexed_from, lexed_to, past}
 use Rattle.just_bench_expressions.proofs.Lexing.{quote_found}
 use Rattle.just_bench_lines.specs.Body.{close_at, part}
 use Rattle.just_bench_lines.proofs.Closing.{closing_within}
 use Rattle.just_bench_stops.specs.Body.{bad_part, body_stop, end_or_line, expression_stop, inner_end, stop_in}
 use Rattle.just_bench_stops.specs.Definitions.{whole_end}
-use Rattle.just_bench_stops.specs.Stops.{line_stop, place_of, stop}
+use Rattle.just_bench_stops.specs.Stops.{line_stop, stop_place, stop}
 use Rattle.just_bench_stops.specs.Tokens.{lexemes_between, or_nothing, or_rest, rest_of, told_at}
 use Rattle.just_bench_stops.proofs.BadParts.{bad_part_is}
 use Rattle.just_bench_stops.proofs.Openings.{opens, opens_within}
@@ -25,7 +25,7 @@ use Rattle.just_bench_stops.proofs.Openings.{opens, opens_within}
 -- a part of a line
 pub record IsPart (path text : List ℕ) (line : TextLine) (token : Place) : Type 0 where
   pub within : token.column + token.length ≤ length line.text
-  pub is : token ≡ place path text line token.column token.length
+  pub is : token ≡ lexeme_place path text line token.column token.length
 
 if_some : {A : Type 0} (P : A → Type 0) (b : Bool) (x y : Option A) → IfSome x P → IfSome y P → IfSome (if b then x else y) P
 if_some P true x y h k = h
@@ -94,12 +94,12 @@ module _ (path text : List ℕ) (line : TextLine) where
   IfParts (Some all) = Parts all
 
   and_part : (found : Kind × ℕ) (at : ℕ) (o : Option (List Lexeme)) → at + found.1 ≤ length line.text → IfParts o
-      → IfParts (option_map (λ ls. record { kind = found.0; token = place path text line at found.1 } ∷ ls) o)
+      → IfParts (option_map (λ ls. record { kind = found.0; token = lexeme_place path text line at found.1 } ∷ ls) o)
   and_part found at None h ps = tt
   and_part found at (Some ls) h ps = (record { within = h; is = refl }, ps)
 
   before_parts : (at n : ℕ) (found : Option (Kind × ℕ)) (others : ℕ → Option (List Lexeme)) → at + n ≤ length line.text → Fits n found → ((m : ℕ) → IfParts (others m))
-      → IfParts (before (place path text line) at found others)
+      → IfParts (before (lexeme_place path text line) at found others)
   before_parts at n None others h fits more = tt
   before_parts at n (Some found) others h fits more = and_part found at (others (found.1 - 1)) (omega (arith, h, fits)) (more (found.1 - 1))
 
@@ -107,13 +107,13 @@ module _ (path text : List ℕ) (line : TextLine) where
   either_parts true x y h k = h
   either_parts false x y h k = k
 
-  from_parts : (at skip : ℕ) (bytes : List ℕ) → at + length bytes ≤ length line.text → IfParts (lexemes_from (place path text line) at skip bytes)
+  from_parts : (at skip : ℕ) (bytes : List ℕ) → at + length bytes ≤ length line.text → IfParts (lexemes_from (lexeme_place path text line) at skip bytes)
   from_parts at skip [] h = tt
   from_parts at (suc skip) (b ∷ rest) h = from_parts (at + 1) skip rest (omega (arith, h))
   from_parts at zero (b ∷ rest) h =
-      either_parts (is_blank b) (lexemes_from (place path text line) (at + 1) 0 rest) (before (place path text line) at (first (b ∷ rest)) (λ more. lexemes_from (place path text line) (at + 1) more rest))
+      either_parts (is_blank b) (lexemes_from (lexeme_place path text line) (at + 1) 0 rest) (before (lexeme_place path text line) at (first (b ∷ rest)) (λ more. lexemes_from (lexeme_place path text line) (at + 1) more rest))
       (from_parts (at + 1) 0 rest (omega (arith, h)))
-      (before_parts at (length (b ∷ rest)) (first (b ∷ rest)) (λ more. lexemes_from (place path text line) (at + 1) more rest) h (first_fits (b ∷ rest))
+      (before_parts at (length (b ∷ rest)) (first (b ∷ rest)) (λ more. lexemes_from (lexeme_place path text line) (at + 1) more rest) h (first_fits (b ∷ rest))
       (λ more. from_parts (at + 1) more rest (omega (arith, h))))
 
   lexemes_parts : (start end : ℕ) → start ≤ end → end ≤ length line.text → IfParts (lexemes path text line start end)
@@ -148,7 +148,7 @@ module _ (path text : List ℕ) (line : TextLine) where
   unfolding expression_stop
   expression_part start end ordered h =
       let w = lexed_within line start end ordered h in
-      told_part start (lexed_to line start end) (place_of (whole_end (lexemes_between path text line start (lexed_to line start end)) 0)) w.0 w.1
+      told_part start (lexed_to line start end) (stop_place (whole_end (lexemes_between path text line start (lexed_to line start end)) 0)) w.0 w.1
 
   inner_within : (inner : ℕ) (o : Option ℕ) → inner ≤ length line.text → IfSome o (λ n. n + 2 ≤ length (drop inner line.text)) → (inner ≤ end_or_line line inner o) × (end_or_line line inner o ≤ length line.text)
   inner_within inner None h found = (h, omega arith)

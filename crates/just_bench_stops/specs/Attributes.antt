@@ -5,9 +5,9 @@ use Rattle.just_names.specs.Token.{lexeme}
 use Rattle.just_names.specs.declared.name.Name.{Name}
 use Rattle.just_bench_expressions.specs.declared.lexer.Lexeme.{Lexeme}
 use Rattle.just_bench_expressions.specs.Expressions.{expression_end}
-use Rattle.just_bench_lines.specs.Attributes.{bare, char_of}
-use Rattle.just_bench_lines.specs.Places.{literal_at, name_at, is_bracket_close, is_bracket_open, is_equals, is_paren_close, is_paren_open, is_quoted}
-use Rattle.just_bench_stops.specs.Marks.{goes_on, mark_end, line_end}
+use Rattle.just_bench_lines.specs.Attributes.{word_alone, char_of}
+use Rattle.just_bench_lines.specs.Places.{literal_at, read_name_at, is_bracket_close, is_bracket_open, is_equals, is_paren_close, is_paren_open, is_quoted}
+use Rattle.just_bench_stops.specs.Marks.{goes_on_from, mark_end, line_end}
 use Rattle.just_bench_stops.specs.Parts.{after_part_end}
 use Rattle.just_bench_stops.specs.declared.attributes.Seen.{Seen}
 use Rattle.just_bench_stops.specs.declared.halt.Halt.{Halt}
@@ -15,23 +15,23 @@ use Rattle.just_bench_stops.specs.declared.halt.Halt.TheVariants as halt
 
 -- the end of an attribute, and the line with it
 abbrev pub bracket_end : List Lexeme → ℕ → Result ℕ ℕ
-bracket_end all at = goes_on (mark_end is_bracket_close all at) (line_end all)
+bracket_end all at = goes_on_from (mark_end is_bracket_close all at) (line_end all)
 
 -- the end of what stands in parentheses, and the attribute with it
 abbrev pub paren_end : List Lexeme → ℕ → Result ℕ ℕ
-paren_end all at = goes_on (mark_end is_paren_close all at) (bracket_end all)
+paren_end all at = goes_on_from (mark_end is_paren_close all at) (bracket_end all)
 
 -- `=` and a quoted text
 abbrev pub value_end : List Lexeme → ℕ → Result ℕ ℕ
-value_end all at = goes_on (mark_end is_equals all at) (mark_end is_quoted all)
+value_end all at = goes_on_from (mark_end is_equals all at) (mark_end is_quoted all)
 
 -- `=` and a quoted text of one character
 abbrev pub letter_end : List Lexeme → ℕ → Result ℕ ℕ
-letter_end all at = goes_on (mark_end is_equals all at) (λ at. if is_some (char_of (literal_at all at)) then Ok (at + 1) else Err at)
+letter_end all at = goes_on_from (mark_end is_equals all at) (λ at. if is_some (char_of (literal_at all at)) then Ok (at + 1) else Err at)
 
 -- `=` and an expression
 abbrev pub pattern_end : List Lexeme → ℕ → Result ℕ ℕ
-pattern_end all at = goes_on (mark_end is_equals all at) (expression_end true all)
+pattern_end all at = goes_on_from (mark_end is_equals all at) (expression_end true all)
 
 -- what was read, and what was seen with it
 abbrev pub with_seen : Seen → Result ℕ ℕ → Result (ℕ × Seen) ℕ
@@ -57,7 +57,7 @@ with_after all (Err stop) = Err stop
 with_after all (Ok found) = with_seen found.1 (after_part_end all found.0)
 
 unfoldable pub property_end : List Lexeme → ℕ → Seen → Result (ℕ × Seen) ℕ
-property_end all at seen = with_after all (property_end_of all at seen (name_at all at))
+property_end all at seen = with_after all (property_end_of all at seen (read_name_at all at))
 
 -- what follows it
 abbrev pub on_seen : Result (ℕ × Seen) ℕ → (ℕ → Seen → Result ℕ ℕ) → Result ℕ ℕ
@@ -86,15 +86,15 @@ Sees (Err halt.Memory) seen it = Unit {0}
 
 -- what stands in the parentheses of an attribute of a parameter: its name, and how it is given
 abbrev pub arg_end : List Lexeme → ℕ → Result ℕ ℕ
-arg_end all at = goes_on (mark_end is_quoted all at) (λ at. goes_on (after_part_end all at) (λ at. goes_on (properties_end all at) (paren_end all)))
+arg_end all at = goes_on_from (mark_end is_quoted all at) (λ at. goes_on_from (after_part_end all at) (λ at. goes_on_from (properties_end all at) (paren_end all)))
 
 -- an attribute by its word
 abbrev pub attribute_end_by : List Lexeme → List ℕ → Result ℕ ℕ
 attribute_end_by all it =
-    if is_some (bare it) then bracket_end all 2
-    else (if bytes_eq it (codes "group") then goes_on (mark_end is_paren_open all 2) (λ at. goes_on (mark_end is_quoted all at) (paren_end all))
-    else (if bytes_eq it (codes "doc") then goes_on (mark_end is_paren_open all 2) (λ at. goes_on (expression_end true all at) (paren_end all))
-    else (if bytes_eq it (codes "arg") then goes_on (mark_end is_paren_open all 2) (arg_end all)
+    if is_some (word_alone it) then bracket_end all 2
+    else (if bytes_eq it (codes "group") then goes_on_from (mark_end is_paren_open all 2) (λ at. goes_on_from (mark_end is_quoted all at) (paren_end all))
+    else (if bytes_eq it (codes "doc") then goes_on_from (mark_end is_paren_open all 2) (λ at. goes_on_from (expression_end true all at) (paren_end all))
+    else (if bytes_eq it (codes "arg") then goes_on_from (mark_end is_paren_open all 2) (arg_end all)
     else Err 1)))
 
 abbrev pub attribute_end_of : List Lexeme → Option Name → Result ℕ ℕ
@@ -103,4 +103,4 @@ attribute_end_of all (Some name) = attribute_end_by all (lexeme name.token)
 
 -- `[NAME]` or `[NAME(..)]`
 unfoldable pub attribute_end : List Lexeme → Result ℕ ℕ
-attribute_end all = goes_on (mark_end is_bracket_open all 0) (λ _. attribute_end_of all (name_at all 1))
+attribute_end all = goes_on_from (mark_end is_bracket_open all 0) (λ _. attribute_end_of all (read_name_at all 1))

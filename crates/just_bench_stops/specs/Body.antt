@@ -7,7 +7,7 @@ use Rattle.just_bench_expressions.specs.Lexemes.{lexed_to}
 use Rattle.just_bench_lines.specs.declared.body.Part.{Part}
 use Rattle.just_bench_lines.specs.Body.{close_at, part}
 use Rattle.just_bench_stops.specs.Definitions.{whole_end}
-use Rattle.just_bench_stops.specs.Stops.{place_of}
+use Rattle.just_bench_stops.specs.Stops.{stop_place}
 use Rattle.just_bench_stops.specs.Tokens.{lexemes_between, rest_of, told_at}
 
 -- a column, where no part begins there, else what follows the part
@@ -36,7 +36,7 @@ inner_end line inner = end_or_line line inner (close_at (drop inner line.text))
 -- what stands where reading of an expression stops that is to go from one column to another: of its lexemes, before the first part that is none
 unfoldable pub expression_stop : Text → Text → TextLine → ℕ → ℕ → Place
 expression_stop path text line start end =
-    told_at path text line start (lexed_to line start end) (place_of (whole_end (lexemes_between path text line start (lexed_to line start end)) 0))
+    told_at path text line start (lexed_to line start end) (stop_place (whole_end (lexemes_between path text line start (lexed_to line start end)) 0))
 
 -- the same of an interpolation, behind the braces that begin it
 abbrev pub interpolation_stop : Text → Text → TextLine → ℕ → Place

@@ -7,30 +7,30 @@ use Rattle.just_bench_expressions.specs.declared.lexer.Lexeme.{Lexeme}
 use Rattle.just_bench_expressions.specs.Expressions.{expression_end}
 use Rattle.just_bench_lines.specs.Definitions.{setting}
 use Rattle.just_bench_lines.specs.Meaning.{after_word, is_optional}
-use Rattle.just_bench_lines.specs.Places.{name_at, stands, word_at, is_assign, is_bracket_close, is_bracket_open, is_name, is_paren_close, is_paren_open, is_quoted}
-use Rattle.just_bench_stops.specs.Marks.{goes_on, mark_end, word_end, line_end, path_end}
+use Rattle.just_bench_lines.specs.Places.{read_name_at, stands, word_at, is_assign, is_bracket_close, is_bracket_open, is_name_kind, is_paren_close, is_paren_open, is_quoted}
+use Rattle.just_bench_stops.specs.Marks.{goes_on_from, mark_end, word_end, line_end, path_end}
 use Rattle.just_bench_stops.specs.Parts.{parts_end, part_end}
 use Rattle.just_bench_stops.specs.declared.parts.Part.TheVariants as part_kind
 
 -- `import 'P'`, or with `?`
 abbrev pub import_end : List Lexeme → Result ℕ ℕ
-import_end all = goes_on (word_end (codes "import") all 0) (λ _. goes_on (mark_end is_quoted all (after_word (is_optional all))) (line_end all))
+import_end all = goes_on_from (word_end (codes "import") all 0) (λ _. goes_on_from (mark_end is_quoted all (after_word (is_optional all))) (line_end all))
 
 -- `mod NAME`, or with a path or `?`
 abbrev pub module_end : List Lexeme → Result ℕ ℕ
 module_end all =
-    goes_on (word_end (codes "mod") all 0) (λ _. goes_on (mark_end is_name all (after_word (is_optional all))) (λ at.
+    goes_on_from (word_end (codes "mod") all 0) (λ _. goes_on_from (mark_end is_name_kind all (after_word (is_optional all))) (λ at.
     line_end all (if stands is_quoted all at then at + 1 else at)))
 
 -- an expression that ends the line
 abbrev pub whole_end : List Lexeme → ℕ → Result ℕ ℕ
-whole_end all at = goes_on (expression_end true all at) (line_end all)
+whole_end all at = goes_on_from (expression_end true all at) (line_end all)
 
 -- the program that a setting is set to: a list that is not empty, and no sum
 abbrev pub program_end : List Lexeme → Result ℕ ℕ
 program_end all =
-    goes_on (mark_end is_assign all 2) (λ at. goes_on (mark_end is_bracket_open all at) (λ inner.
-    if stands is_bracket_close all inner then Err inner else goes_on (expression_end false all at) (line_end all)))
+    goes_on_from (mark_end is_assign all 2) (λ at. goes_on_from (mark_end is_bracket_open all at) (λ inner.
+    if stands is_bracket_close all inner then Err inner else goes_on_from (expression_end false all at) (line_end all)))
 
 -- `true` or `false`
 abbrev pub truth_end : List Lexeme → ℕ → Result ℕ ℕ
@@ -38,7 +38,7 @@ truth_end all at = if word_at (codes "true") all at then Ok (at + 1) else word_e
 
 -- what a setting is set to that is on or off, or nothing
 abbrev pub switch_end : List Lexeme → Result ℕ ℕ
-switch_end all = if length all == 2 then Ok 2 else goes_on (mark_end is_assign all 2) (λ at. goes_on (truth_end all at) (line_end all))
+switch_end all = if length all == 2 then Ok 2 else goes_on_from (mark_end is_assign all 2) (λ at. goes_on_from (truth_end all at) (line_end all))
 
 -- a setting that names a program
 abbrev pub names_program : List ℕ → Bool
@@ -54,29 +54,29 @@ named_setting_end all (Some name) = setting_end all (lexeme name.token)
 
 -- `set NAME` or `set NAME := ..`
 abbrev pub set_end : List Lexeme → Result ℕ ℕ
-set_end all = goes_on (word_end (codes "set") all 0) (λ _. named_setting_end all (name_at all 1))
+set_end all = goes_on_from (word_end (codes "set") all 0) (λ _. named_setting_end all (read_name_at all 1))
 
 -- `unexport NAME`
 abbrev pub unexport_end : List Lexeme → Result ℕ ℕ
-unexport_end all = goes_on (word_end (codes "unexport") all 0) (λ at. goes_on (mark_end is_name all at) (line_end all))
+unexport_end all = goes_on_from (word_end (codes "unexport") all 0) (λ at. goes_on_from (mark_end is_name_kind all at) (line_end all))
 
 -- NAME := E, from a place on
 abbrev pub assignment_end : List Lexeme → ℕ → Result ℕ ℕ
-assignment_end all at = goes_on (mark_end is_name all at) (λ at. goes_on (mark_end is_assign all at) (whole_end all))
+assignment_end all at = goes_on_from (mark_end is_name_kind all at) (λ at. goes_on_from (mark_end is_assign all at) (whole_end all))
 
 -- one with a word before it
 abbrev pub prefixed_end : List ℕ → List Lexeme → Result ℕ ℕ
-prefixed_end it all = goes_on (word_end it all 0) (assignment_end all)
+prefixed_end it all = goes_on_from (word_end it all 0) (assignment_end all)
 
 -- NAME(A, ..) := E
 abbrev pub function_end : List Lexeme → Result ℕ ℕ
 function_end all =
-    goes_on (mark_end is_name all 0) (λ at. goes_on (mark_end is_paren_open all at) (λ at.
-    goes_on (parts_end false is_paren_close (part_end part_kind.FunctionParameter) all at) (λ close.
-    goes_on (mark_end is_assign all (close + 1)) (whole_end all))))
+    goes_on_from (mark_end is_name_kind all 0) (λ at. goes_on_from (mark_end is_paren_open all at) (λ at.
+    goes_on_from (parts_end false is_paren_close (part_end part_kind.FunctionParameter) all at) (λ close.
+    goes_on_from (mark_end is_assign all (close + 1)) (whole_end all))))
 
 -- `alias NAME := PATH`
 abbrev pub alias_end : List Lexeme → Result ℕ ℕ
 alias_end all =
-    goes_on (word_end (codes "alias") all 0) (λ at. goes_on (mark_end is_name all at) (λ at.
-    goes_on (mark_end is_assign all at) (λ at. goes_on (path_end all at) (line_end all))))
+    goes_on_from (word_end (codes "alias") all 0) (λ at. goes_on_from (mark_end is_name_kind all at) (λ at.
+    goes_on_from (mark_end is_assign all at) (λ at. goes_on_from (path_end all at) (line_end all))))

@@ -9,9 +9,9 @@ use Rattle.just_bench_stops.specs.declared.halt.Halt.{Halt}
 use Rattle.just_bench_stops.specs.declared.halt.Halt.TheVariants as halt
 
 -- what follows a part, from where that ends
-abbrev pub goes_on : Result ℕ ℕ → (ℕ → Result ℕ ℕ) → Result ℕ ℕ
-goes_on (Err at) more = Err at
-goes_on (Ok end) more = more end
+abbrev pub goes_on_from : Result ℕ ℕ → (ℕ → Result ℕ ℕ) → Result ℕ ℕ
+goes_on_from (Err at) more = Err at
+goes_on_from (Ok end) more = more end
 
 -- a lexeme of such a kind
 abbrev pub mark_end : (Kind → Bool) → List Lexeme → ℕ → Result ℕ ℕ

@@ -27,16 +27,16 @@ form_end form.Attribute all = attribute_end all
 form_end form.Heading all = heading_end all
 
 -- the place after it, or that where reading stops
-abbrev pub place_of : Result ℕ ℕ → ℕ
-place_of (Ok end) = end
-place_of (Err at) = at
+abbrev pub stop_place : Result ℕ ℕ → ℕ
+stop_place (Ok end) = end
+stop_place (Err at) = at
 
 -- the further one of two places
 abbrev pub further_of : ℕ → ℕ → ℕ
 further_of far place = if nat_le far place then place else far
 
 abbrev pub further : List Lexeme → Form → ℕ → ℕ
-further all it far = further_of far (place_of (form_end it all))
+further all it far = further_of far (stop_place (form_end it all))
 
 abbrev pub furthest : List Lexeme → ℕ → List Form → ℕ
 furthest all far [] = far

@@ -1,6 +1,6 @@
 //! The lines of attributes.
 ghost use Rattle.std.specs.Prelude.{◌≡◌, ◌<◌, ◌≤◌, length, is_some, IfOk};
-ghost use Rattle.just_bench_lines.specs.Attributes.{bare};
+ghost use Rattle.just_bench_lines.specs.Attributes.{word_alone};
 ghost use Rattle.just_bench_lines.specs.Places.{GoesOn};
 ghost use Rattle.just_bench_stops.specs.Marks.{GoesTo};
 ghost use Rattle.just_bench_stops.specs.Attributes as spec;

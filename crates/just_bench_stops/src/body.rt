@@ -4,7 +4,7 @@ ghost use Rattle.std.specs.Str.{IsCharBoundary};
 ghost use Rattle.just_bench_expressions.specs.Lines.{IsLineOf};
 ghost use Rattle.just_bench_lines.specs.Body.{twice_at};
 ghost use Rattle.just_bench_stops.specs.Definitions.{whole_end};
-ghost use Rattle.just_bench_stops.specs.Stops.{place_of};
+ghost use Rattle.just_bench_stops.specs.Stops.{stop_place};
 ghost use Rattle.just_bench_stops.specs.Body as spec;
 
 use crate::definitions::whole_expression;
@@ -19,7 +19,7 @@ use std::alloc::{AllocError, Global};
 
 // The place at which reading of an expression stops that is to end with its lexemes.
 fn expression_place<'src>(spelling: &Spelling<'src>) -> Result<usize, AllocError>
-    ensures { IfOk result (λ place. place ≡ place_of (whole_end spelling.now 0)) }
+    ensures { IfOk result (λ place. place ≡ stop_place (whole_end spelling.now 0)) }
 {
     match whole_expression(spelling, 0) {
         Ok(end) => Ok(end),

@@ -9,7 +9,7 @@ ghost use Rattle.just_bench_lines.specs.Alias.{alias_line};
 ghost use Rattle.just_bench_lines.specs.Attributes.{attribute};
 ghost use Rattle.just_bench_lines.specs.Body.{body_line, interpolation};
 ghost use Rattle.just_bench_lines.specs.Definitions as definitions;
-ghost use Rattle.just_bench_lines.specs.Heading.{heading};
+ghost use Rattle.just_bench_lines.specs.Heading.{heading_in_line};
 ghost use Rattle.just_bench_lines.specs.Meaning.{import, module_line, sorted};
 ghost use Rattle.just_bench_stops.specs.declared.stops.Form.{Form};
 ghost use Rattle.just_bench_stops.specs.Attributes.{attribute_end};
@@ -31,7 +31,7 @@ pub fn kinds_go_to_their_ends()
     ensures functions { (all : List Lexeme) → is_some (definitions.function all) ≡ is_ok (ends.function_end all) }
     ensures aliases { (all : List Lexeme) → is_some (alias_line all) ≡ is_ok (ends.alias_end all) }
     ensures attributes { (all : List Lexeme) → is_some (attribute all) ≡ is_ok (attribute_end all) }
-    ensures headings { (all : List Lexeme) → is_some (heading all) ≡ is_ok (heading_end all) }
+    ensures headings { (all : List Lexeme) → is_some (heading_in_line all) ≡ is_ok (heading_end all) }
 {}
 
 /// A line does not follow the grammar exactly where it is read to its end as none of the kinds of lines; and its parts are

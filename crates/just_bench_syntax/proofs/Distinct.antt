@@ -7,7 +7,7 @@ use Rattle.std.proofs.lemmas.List.Folds.{list_any-append}
 use Rattle.just_ast_expressions.specs.declared.sigil.Sigil.{Sigil}
 use Rattle.just_ast_expressions.specs.declared.sigil.Sigil.TheVariants as sigil
 use Rattle.just_ast_expressions.specs.contracts.sigil.SigilPartialEq.TheImpl.{eq-value}
-use Rattle.just_bench_syntax.specs.Sigils.{begun, leading, same, sigil_of}
+use Rattle.just_bench_syntax.specs.Sigils.{sigils_begun, leading, same, sigil_of}
 
 same_is : (a b : Sigil) → eq-value.it a b ≡ same a b
 same_is sigil.Guard sigil.Guard = refl
@@ -60,8 +60,8 @@ pub Begun-all : (bytes : List ℕ) (i : ℕ) (found : List Sigil) → length byt
 Begun-all bytes i found past so_far = stops bytes i found so_far (ap (λ xs. before_first (stands found) (leading xs)) (drop_all i bytes past))
 
 module _ (bytes : List ℕ) (i : ℕ) (found : List Sigil) (within : i < length bytes) (so_far : Begun bytes i found) where
-  next : (o : Option Sigil) → sigil_of (get_or bytes i 0) ≡ o → leading (drop i bytes) ≡ begun o (leading (drop (suc i) bytes))
-  next o is_o = ap leading (drop-cons bytes i 0 within) ∙ ap (λ s. begun s (leading (drop (suc i) bytes))) is_o
+  next : (o : Option Sigil) → sigil_of (get_or bytes i 0) ≡ o → leading (drop i bytes) ≡ sigils_begun o (leading (drop (suc i) bytes))
+  next o is_o = ap leading (drop-cons bytes i 0 within) ∙ ap (λ s. sigils_begun s (leading (drop (suc i) bytes))) is_o
 
   pub Begun-other : sigil_of (get_or bytes i 0) ≡ None → found ≡ leading bytes
   Begun-other none = stops bytes i found so_far (ap (before_first (stands found)) (next None none))

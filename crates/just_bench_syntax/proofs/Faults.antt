@@ -12,7 +12,7 @@ use Rattle.just_ast_definitions.specs.declared.attribute.NamedAttribute.{NamedAt
 use Rattle.just_ast_expressions.specs.declared.expression.Expression.{Expression}
 use Rattle.just_ast_expressions.specs.declared.list_use.ListUse.{ListUse}
 use Rattle.just_bench_expressions.specs.declared.lines.TextLine.{TextLine}
-use Rattle.just_bench_expressions.specs.Lexemes.{place}
+use Rattle.just_bench_expressions.specs.Lexemes.{lexeme_place}
 use Rattle.just_bench_expressions.specs.Lines.{line_place, lines_of}
 use Rattle.just_bench_expressions.proofs.Cuts.{line_at_number}
 use Rattle.just_bench_lines.specs.declared.attributes.Options.{Options}
@@ -98,7 +98,7 @@ module _ (path text : List ℕ) where
   RecipeTold (Ok r) = Unit {0}
   RecipeTold (Err at) = Told at
 
-  by_told : (h : Heading) (attributes : List (NamedAttribute Expression)) (spoken : List Spoken) (o : Option Place) → IfSome o Told → RecipeTold (recipe.recipe_by h attributes spoken o)
+  by_told : (h : Heading) (attributes : List (NamedAttribute Expression)) (spoken : List Spoken) (o : Option Place) → IfSome o Told → RecipeTold (recipe.recipe_after h attributes spoken o)
   by_told h attributes spoken None told = tt
   by_told h attributes spoken (Some at) told = told
 
@@ -114,7 +114,7 @@ module _ (path text : List ℕ) where
   item_told r it None is told = record { first = told.first; spoken = told.spoken }
   item_told r it (Some first) is told = subst (λ o. IfSome o Told) (sym is) told.first
 
-  module_told : (r : Reading) (d : Declaration) (spoken : List Spoken) → spoken ≡ r.spoken → AreTold r → Goes (items.module_by r d spoken)
+  module_told : (r : Reading) (d : Declaration) (spoken : List Spoken) → spoken ≡ r.spoken → AreTold r → Goes (items.module_after r d spoken)
   module_told r d [] is told = record { first = tt; spoken = told.spoken }
   module_told r d (s ∷ rest) is told = subst (λ ss. All (λ (x : Spoken). Told x.at) ss) (sym is) told.spoken 0 s (omega arith)
 
@@ -134,7 +134,7 @@ module _ (path text : List ℕ) where
   dropped_told line size r None places told = places.whole
   dropped_told line size r (Some start) places told = body_told line size start r (body_line path text line start) (places.body start) told
 
-  meaning_told : (line : TextLine) (m : Meaning) (r : Reading) → AreInLine path text line → AreTold r → Goes (items.with_meaning path text line m r)
+  meaning_told : (line : TextLine) (m : Meaning) (r : Reading) → AreInLine path text line → AreTold r → Goes (items.after_meaning path text line m r)
   meaning_told line meaning.Bad r places told = places.stop
   meaning_told line meaning.Ignored r places told = told
   meaning_told line meaning.Indented r places told =
@@ -160,9 +160,9 @@ module _ (path text : List ℕ) where
   lines_told : (r : Reading) (ls : List TextLine) → All (AreInLine path text) ls → AreTold r → Goes (items.with_lines path text r ls)
   lines_told r [] all told = told
   lines_told r (line ∷ rest) all told =
-      onward_told Goes (items.with_said path text line (said.said path text line) r) (λ more. items.with_lines path text more rest)
-      (uses_told (said.said path text line).lists (items.with_meaning path text line (said.said path text line).meaning r)
-      (meaning_told line (said.said path text line).meaning r (all 0 line (omega arith)) told))
+      onward_told Goes (items.with_said path text line (said.said_by_line path text line) r) (λ more. items.with_lines path text more rest)
+      (uses_told (said.said_by_line path text line).lists (items.after_meaning path text line (said.said_by_line path text line).meaning r)
+      (meaning_told line (said.said_by_line path text line).meaning r (all 0 line (omega arith)) told))
       (λ at here. here)
       (λ more t. lines_told more rest (λ k d within. all (suc k) d (omega (arith, within))) t)
 
@@ -175,20 +175,20 @@ module _ (path text : List ℕ) where
   ends_told r None told = tt
   ends_told r (Some first) told = told
 
-  pub fault_told : IfErr (items.items_of path text) Told
-  unfolding items.items_of
+  pub fault_told : IfErr (items.items_in_text path text) Told
+  unfolding items.items_in_text
   fault_told =
       onward_told (λ (found : Result Items Place). IfErr found Told) (items.with_lines path text items.unread (lines_of text)) items.finished
       (lines_told items.unread (lines_of text) each_line (record { first = tt; spoken = All-nil (λ (s : Spoken). Told s.at) }))
       (λ at here. here)
       (λ r told. ends_told r r.first told.first)
 
-pub found_told : (path text : List ℕ) (found : Result Items Place) → found ≡ items.items_of path text → IfErr found (IsInLine path text)
+pub found_told : (path text : List ℕ) (found : Result Items Place) → found ≡ items.items_in_text path text → IfErr found (IsInLine path text)
 found_told path text found is = subst (λ r. IfErr r (IsInLine path text)) (sym is) (fault_told path text)
 
 -- all lines, from the first
 pub read_all : (path text : List ℕ) (all : List TextLine) (start : Reading) (r : Result Reading Place) → all ≡ lines_of text → start ≡ items.unread → r ≡ items.with_lines path text start all
-    → items.onward r items.finished ≡ items.items_of path text
-unfolding items.items_of
+    → items.onward r items.finished ≡ items.items_in_text path text
+unfolding items.items_in_text
 read_all path text all start r whole first read =
     ap (λ x. items.onward x items.finished) (read ∙ ap (λ x. items.with_lines path text x all) first ∙ ap (items.with_lines path text items.unread) whole)

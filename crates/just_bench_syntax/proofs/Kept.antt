@@ -17,10 +17,10 @@ use Rattle.just_ast_definitions.specs.declared.parameter.Parameter.{Parameter}
 use Rattle.just_errors.specs.declared.error.Error.{Error}
 use Rattle.just_errors.specs.declared.error.Error.TheVariants as error
 use Rattle.just_bench_syntax.specs.declared.items.Items.{Items}
-use Rattle.just_bench_syntax.specs.Items.{items_of}
+use Rattle.just_bench_syntax.specs.Items.{items_in_text}
 use Rattle.just_bench_syntax.specs.Proper.{IsProper}
-use Rattle.just_bench_syntax.specs.Answers.{answers, ast_of, counted_in, spends}
-use Rattle.just_bench_syntax.specs.Numbering.{counted}
+use Rattle.just_bench_syntax.specs.Answers.{answers, ast_with_lists, counted_in, spends}
+use Rattle.just_bench_syntax.specs.Numbering.{numbers_counted}
 use Rattle.just_bench_syntax.specs.loops.Numbering.{Spent}
 use Rattle.just_bench_syntax.specs.Refusal.{RefusesLine}
 
@@ -59,7 +59,7 @@ pub names_fit : (items old : List Item) → map bare_item items ≡ old → All 
 names_fit items old same proper = each_kept AttributesNameParameters AttributesNameParameters bare_item items attributes_kept (rw same (λ k d within. (proper k d within).attributes))
 
 -- how many numbers a text takes
-pub spends_is : (path text : List ℕ) (found : Items) → Ok found ≡ items_of path text → spends path text ≡ counted found.items
+pub spends_is : (path text : List ℕ) (found : Items) → Ok found ≡ items_in_text path text → spends path text ≡ numbers_counted found.items
 unfolding spends
 spends_is path text found is = ap counted_in (sym is)
 
@@ -71,8 +71,8 @@ why_spent path text wanted (error.Load e) h = absurd h
 why_spent path text wanted (error.Invocation e) h = absurd h
 why_spent path text wanted (error.Run e) h = absurd h
 
-pub spent_on_text : (path text : List ℕ) (found : Items) (low : ℕ) (e : Error) → Ok found ≡ items_of path text → Spent (low + counted found.items) e → RefusesLine path text e (low + spends path text)
-spent_on_text path text found low e is h = rw (spends_is path text found is) (why_spent path text (low + counted found.items) e h)
+pub spent_on_text : (path text : List ℕ) (found : Items) (low : ℕ) (e : Error) → Ok found ≡ items_in_text path text → Spent (low + numbers_counted found.items) e → RefusesLine path text e (low + spends path text)
+spent_on_text path text found low e is h = rw (spends_is path text found is) (why_spent path text (low + numbers_counted found.items) e h)
 
 -- the line that is told
 -- in the words of the layer
@@ -80,7 +80,7 @@ pub line_refuses : (pairs : List (Keyword × Keyword)) (path text : List ℕ) (g
 line_refuses pairs path text given error.Exhausted h = h
 line_refuses pairs path text given error.Memory h = tt
 line_refuses pairs path text given (error.Compile e) h = record {
-  says_nothing = ap (λ r. option_map ast_of (result_ok r)) h.told;
+  says_nothing = ap (λ r. option_map ast_with_lists (result_ok r)) h.told;
   kind = h.kind;
   path = ap (λ (t : Place). t.path) h.place.is;
   src = ap (λ (t : Place). t.src) h.place.is;

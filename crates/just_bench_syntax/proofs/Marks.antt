@@ -16,7 +16,7 @@ use Rattle.just_bench_lines.specs.declared.attributes.Mark.{Mark}
 use Rattle.just_bench_lines.specs.declared.attributes.Properties.{Properties}
 use Rattle.just_bench_lines.specs.Attributes as marks
 use Rattle.just_bench_lines.specs.Definitions.{after_part}
-use Rattle.just_bench_lines.specs.Places.{literal_at, name_at, stands, is_bracket_open, is_paren_open}
+use Rattle.just_bench_lines.specs.Places.{literal_at, read_name_at, stands, is_bracket_open, is_paren_open}
 use Rattle.just_bench_syntax.proofs.Proper.{IsSaid, either}
 
 -- what a mark says of a parameter is there
@@ -36,14 +36,14 @@ nothing_marked name (Some a) nothing = nothing
 chain : (w : List ℕ) (word : List ℕ) (x y : Option (Attribute Expression)) → SaysNothing x → SaysNothing y → SaysNothing (if bytes_eq w word then x else y)
 chain w word x y p q = either SaysNothing (bytes_eq w word) x y p q
 
-bare_nothing : (w : List ℕ) → SaysNothing (marks.bare w)
+bare_nothing : (w : List ℕ) → SaysNothing (marks.word_alone w)
 bare_nothing w = chain w (codes "default") _ _ tt (chain w (codes "private") _ _ tt (chain w (codes "parallel") _ _ tt (chain w (codes "confirm") _ _ tt (chain w (codes "no-quiet") _ _ tt tt))))
 
-group_nothing : (all : List Lexeme) (at : ℕ) (text : Option StringLiteral) → SaysNothing (marks.group_of all at text)
+group_nothing : (all : List Lexeme) (at : ℕ) (text : Option StringLiteral) → SaysNothing (marks.group_attribute all at text)
 group_nothing all at None = tt
 group_nothing all at (Some text) = either SaysNothing (marks.closes_at all (at + 1)) (Some (attribute.Group text)) None tt tt
 
-doc_nothing : (all : List Lexeme) (found : Option Found) → SaysNothing (marks.doc_of all found)
+doc_nothing : (all : List Lexeme) (found : Option Found) → SaysNothing (marks.doc_attribute all found)
 doc_nothing all None = tt
 doc_nothing all (Some found) = either SaysNothing (marks.closes_at all found.end) (Some (attribute.Doc (Some found.made))) None tt tt
 
@@ -61,18 +61,18 @@ of_said all name at None = tt
 of_said all name at (Some parameter) = from_said all name parameter (after_part all (at + 1))
 
 argument_said : (all : List Lexeme) (name : Name) → MarkSaid (marks.with_argument all name)
-unfolding marks.arg marks.group marks.doc
+unfolding marks.arg marks.group_in_line marks.doc
 argument_said all name =
-    either MarkSaid (bytes_eq (lexeme name.token) (codes "group")) _ _ (nothing_marked name (marks.group all 3) (group_nothing all 3 (literal_at all 3)))
+    either MarkSaid (bytes_eq (lexeme name.token) (codes "group")) _ _ (nothing_marked name (marks.group_in_line all 3) (group_nothing all 3 (literal_at all 3)))
     (either MarkSaid (bytes_eq (lexeme name.token) (codes "doc")) _ _ (nothing_marked name (marks.doc all 3) (doc_nothing all (expression true all 3)))
     (either MarkSaid (bytes_eq (lexeme name.token) (codes "arg")) _ _ (of_said all name 3 (literal_at all 3)) tt))
 
 name_said : (all : List Lexeme) (name : Option Name) → MarkSaid (marks.attribute_of all name)
 name_said all None = tt
 name_said all (Some name) =
-    either MarkSaid (marks.ends_at all 2) _ _ (nothing_marked name (marks.bare (lexeme name.token)) (bare_nothing (lexeme name.token)))
+    either MarkSaid (marks.ends_at all 2) _ _ (nothing_marked name (marks.word_alone (lexeme name.token)) (bare_nothing (lexeme name.token)))
     (either MarkSaid (stands is_paren_open all 2) _ _ (argument_said all name) tt)
 
 pub mark_said : (all : List Lexeme) → MarkSaid (marks.attribute all)
 unfolding marks.attribute
-mark_said all = either MarkSaid (stands is_bracket_open all 0) (marks.attribute_of all (name_at all 1)) None (name_said all (name_at all 1)) tt
+mark_said all = either MarkSaid (stands is_bracket_open all 0) (marks.attribute_of all (read_name_at all 1)) None (name_said all (read_name_at all 1)) tt

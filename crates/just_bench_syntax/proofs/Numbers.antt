@@ -6,7 +6,7 @@ use Rattle.std.proofs.lemmas.List.{drop-set-lt, take_more_set}
 use Rattle.std.proofs.lemmas.List.Elements.{All-head, All-tail}
 use Rattle.just_parts.specs.Items.{Item}
 use Rattle.just_parts.specs.Syntax.{AreRising, item_numbers, numbers_of_items}
-use Rattle.just_bench_syntax.specs.Numbering.{counted}
+use Rattle.just_bench_syntax.specs.Numbering.{numbers_counted}
 use Rattle.just_bench_syntax.specs.loops.Numbering.{AreNumberedInTurn}
 
 rising_lower : (low middle : ℕ) (ns : List ℕ) (high : ℕ) → low ≤ middle → AreRising middle ns high → AreRising low ns high
@@ -49,5 +49,5 @@ rest xs k old new within here =
 pub first : {A : Type 0} (P : A → Type 0) (xs : List A) (k : ℕ) (old : A) → k < length xs → old ≡ get_or xs k old → All P (drop k xs) → P old
 first P xs k old within here left = All-head P old _ (subst (All P) (rest xs k old old within here) left)
 
-pub counted_rest : (xs : List Item) (k : ℕ) (old new : Item) → k < length xs → old ≡ get_or xs k old → counted (drop k xs) ≡ length (item_numbers old) + counted (drop (k + 1) (set xs k new))
-counted_rest xs k old new within here = ap counted (rest xs k old new within here) ∙ length-append (item_numbers old) (numbers_of_items (drop (k + 1) (set xs k new)))
+pub counted_rest : (xs : List Item) (k : ℕ) (old new : Item) → k < length xs → old ≡ get_or xs k old → numbers_counted (drop k xs) ≡ length (item_numbers old) + numbers_counted (drop (k + 1) (set xs k new))
+counted_rest xs k old new within here = ap numbers_counted (rest xs k old new within here) ∙ length-append (item_numbers old) (numbers_of_items (drop (k + 1) (set xs k new)))

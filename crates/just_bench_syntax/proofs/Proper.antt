@@ -28,10 +28,10 @@ use Rattle.just_bench_expressions.specs.Expressions.{expression}
 use Rattle.just_bench_lines.specs.declared.attributes.Options.{Options}
 use Rattle.just_bench_lines.specs.declared.heading.Heading.{Heading}
 use Rattle.just_bench_lines.specs.Heading as heading
-use Rattle.just_bench_lines.specs.Parts.{before_others, parts, parts_from}
+use Rattle.just_bench_lines.specs.Parts.{before_others, read_parts, parts_from}
 use Rattle.just_bench_syntax.specs.declared.recipe.Spoken.{Spoken}
 use Rattle.just_bench_syntax.specs.Proper.{IsProper}
-use Rattle.just_bench_lines.specs.Places.{name_at, stands, is_at_sign, is_colon, is_equals, is_plus, is_star}
+use Rattle.just_bench_lines.specs.Places.{read_name_at, stands, is_at_sign, is_colon, is_equals, is_plus, is_star}
 use Rattle.just_bench_syntax.specs.Recipe as recipe
 
 -- one of two
@@ -63,7 +63,7 @@ default_fresh : (name : Name) (kind : ParameterKind) (found : Option Found) → 
 default_fresh name kind None = tt
 default_fresh name kind (Some found) = (refl, (refl, refl))
 
-name_fresh : (all : List Lexeme) (at : ℕ) (kind : ParameterKind) (name : Option Name) → OneFresh (heading.by_name all at kind name)
+name_fresh : (all : List Lexeme) (at : ℕ) (kind : ParameterKind) (name : Option Name) → OneFresh (heading.parameter_by_name all at kind name)
 name_fresh all at kind None = tt
 name_fresh all at kind (Some name) =
     either OneFresh (stands is_equals all (at + 1)) (heading.with_default name kind (expression false all (at + 2))) (Some (heading.made_of name kind None, at + 1))
@@ -71,7 +71,7 @@ name_fresh all at kind (Some name) =
 
 named_fresh : (all : List Lexeme) (at : ℕ) (kind : ParameterKind) → OneFresh (heading.named_parameter all at kind)
 unfolding heading.named_parameter
-named_fresh all at kind = name_fresh all at kind (name_at all at)
+named_fresh all at kind = name_fresh all at kind (read_name_at all at)
 
 parameter_fresh : (all : List Lexeme) (at : ℕ) → OneFresh (heading.parameter all at)
 unfolding heading.parameter
@@ -97,7 +97,7 @@ from_fresh all at zero (l ∷ rest) =
     tt (before_fresh at (heading.parameter all at) (λ skip. parameters_from all (at + 1) skip rest) (parameter_fresh all at) (λ skip. from_fresh all (at + 1) skip rest))
 
 parameters_fresh : (all : List Lexeme) (start : ℕ) → ManyFresh (heading.parameters all start)
-unfolding parts
+unfolding read_parts
 parameters_fresh all start = from_fresh all start 0 (drop start all)
 
 -- a heading of such parameters
@@ -118,11 +118,11 @@ unfolding heading.after_name
 at_fresh all quiet at None = tt
 at_fresh all quiet at (Some name) = with_fresh all quiet name (heading.parameters all (at + 1)) (parameters_fresh all (at + 1))
 
-pub heading_fresh : (all : List Lexeme) → HeadingFresh (heading.heading all)
-unfolding heading.heading
+pub heading_fresh : (all : List Lexeme) → HeadingFresh (heading.heading_in_line all)
+unfolding heading.heading_in_line
 heading_fresh all =
-    either HeadingFresh (stands is_at_sign all 0) (heading.heading_at all (stands is_at_sign all 0) 1 (name_at all 1)) (heading.heading_at all (stands is_at_sign all 0) 0 (name_at all 0))
-    (at_fresh all (stands is_at_sign all 0) 1 (name_at all 1)) (at_fresh all (stands is_at_sign all 0) 0 (name_at all 0))
+    either HeadingFresh (stands is_at_sign all 0) (heading.heading_at all (stands is_at_sign all 0) 1 (read_name_at all 1)) (heading.heading_at all (stands is_at_sign all 0) 0 (read_name_at all 0))
+    (at_fresh all (stands is_at_sign all 0) 1 (read_name_at all 1)) (at_fresh all (stands is_at_sign all 0) 0 (read_name_at all 0))
 
 -- one of them speaks of the parameter of this name
 abbrev pub SpeakOf : List Options → List ℕ → Type 0
@@ -139,7 +139,7 @@ abbrev pub said_of : List Spoken → List Options
 said_of = map (λ (s : Spoken). s.options)
 
 -- options leave a parameter without a number
-given_fresh : (o : Option Spoken) (p : Parameter) → IsFresh p → IsFresh (recipe.given o p)
+given_fresh : (o : Option Spoken) (p : Parameter) → IsFresh p → IsFresh (recipe.with_spoken o p)
 given_fresh None p fresh = fresh
 given_fresh (Some s) p fresh = (ap (λ (q : Parameter). record q { long = s.options.long; short = s.options.short; flag = s.options.flag }) fresh.0, fresh.1)
 
@@ -157,9 +157,9 @@ plain_of (p ∷ ps) fresh zero d h = fresh.0.1
 plain_of (p ∷ ps) fresh (suc k) d h = plain_of ps fresh.1 k d (omega (arith, h))
 
 -- the parameter that an attribute speaks of is there
-named_in : (ps : List Parameter) (name : List ℕ) → recipe.is_parameter ps name ≡ true → Contains (map (λ (p : Parameter). lexeme p.name.token) ps) name
+named_in : (ps : List Parameter) (name : List ℕ) → recipe.names_parameter ps name ≡ true → Contains (map (λ (p : Parameter). lexeme p.name.token) ps) name
 named_in [] name h = cc
-named_in (p ∷ ps) name h = elim (or_cases (bytes_eq (lexeme p.name.token) name) (recipe.is_parameter ps name) h) [
+named_in (p ∷ ps) name h = elim (or_cases (bytes_eq (lexeme p.name.token) name) (recipe.names_parameter ps name) h) [
   | inl e ↦ (0, omega arith, (bytes_eq-Decides (lexeme p.name.token) name).0 e)
   | inr e ↦ Contains-append_right (lexeme p.name.token ∷ []) (map (λ (q : Parameter). lexeme q.name.token) ps) name (named_in ps name e)
 ]
@@ -176,14 +176,14 @@ fits_named : (ps : List Parameter) (before spoken : List Spoken) (name : List �
     → Contains (map (λ (p : Parameter). lexeme p.name.token) ps) name
 fits_named ps before [] name fits said = absurd said
 fits_named ps before (s ∷ rest) name fits said =
-    let b = both_hold (recipe.is_parameter ps s.options.parameter) (not (is_some (recipe.options_of before s.options.parameter))) (recipe.misfit_from ps (before ++ s ∷ []) rest) (Some s.at) (some_there s.at) fits in
+    let b = both_hold (recipe.names_parameter ps s.options.parameter) (not (is_some (recipe.options_of before s.options.parameter))) (recipe.misfit_from ps (before ++ s ∷ []) rest) (Some s.at) (some_there s.at) fits in
     elim said [
       | inl e ↦ subst (λ n. Contains (map (λ (p : Parameter). lexeme p.name.token) ps) n) e (named_in ps s.options.parameter b.0)
       | inr more ↦ fits_named ps (before ++ s ∷ []) rest name b.1 more
     ]
 
 -- options leave a parameter its name
-given_name : (o : Option Spoken) (p : Parameter) → (recipe.given o p).name ≡ p.name
+given_name : (o : Option Spoken) (p : Parameter) → (recipe.with_spoken o p).name ≡ p.name
 given_name None p = refl
 given_name (Some o) p = refl
 
@@ -214,7 +214,7 @@ made_proper h attributes spoken fresh fits said = record {
   };
 }
 
-by_proper : (h : Heading) (attributes : List (NamedAttribute Expression)) (spoken : List Spoken) (o : Option Place) → (o ≡ None → IsProper (item.Recipe (recipe.made_of h attributes spoken))) → RecipeProper (recipe.recipe_by h attributes spoken o)
+by_proper : (h : Heading) (attributes : List (NamedAttribute Expression)) (spoken : List Spoken) (o : Option Place) → (o ≡ None → IsProper (item.Recipe (recipe.made_of h attributes spoken))) → RecipeProper (recipe.recipe_after h attributes spoken o)
 by_proper h attributes spoken None proper = proper refl
 by_proper h attributes spoken (Some at) proper = tt
 

@@ -13,7 +13,7 @@ use Rattle.just_names.specs.Token.{lexeme}
 use Rattle.just_names.proofs.Indexing.{texts_apart}
 use Rattle.just_ast_definitions.specs.declared.parameter.Parameter.{Parameter}
 use Rattle.just_bench_syntax.specs.declared.recipe.Spoken.{Spoken}
-use Rattle.just_bench_syntax.specs.Recipe.{AreFoundNames, fits, is_parameter, misfit, misfit_from, names_of, options_of}
+use Rattle.just_bench_syntax.specs.Recipe.{AreFoundNames, fits, names_parameter, misfit, misfit_from, parameter_names_of, options_of}
 use Rattle.just_bench_syntax.specs.loops.Recipe.{spoken_of}
 
 -- nothing is said of a name that no attribute has among the first
@@ -61,28 +61,28 @@ said_by ss name None apart last = none_at_all ss name last
 said_by ss name (Some k) apart last = said_at ss name k apart last.0 last.1
 
 -- whether a parameter has a name, by the place that an index has for it
-no_parameter : (ps : List Parameter) (name : Text) → ((k : ℕ) → k < length (names_of ps) → name_at (names_of ps) k ≢ name) → is_parameter ps name ≡ false
+no_parameter : (ps : List Parameter) (name : Text) → ((k : ℕ) → k < length (parameter_names_of ps) → name_at (parameter_names_of ps) k ≢ name) → names_parameter ps name ≡ false
 no_parameter [] name none = refl
 no_parameter (p ∷ ps) name none =
-    ap (λ b. b || is_parameter ps name) (texts_apart (lexeme p.name.token) name (none 0 (omega arith)))
+    ap (λ b. b || names_parameter ps name) (texts_apart (lexeme p.name.token) name (none 0 (omega arith)))
     ∙ no_parameter ps name (λ k h. none (suc k) (omega (arith, h)))
 
 either : (b more : Bool) → more ≡ true → (b || more) ≡ true
 either true more h = refl
 either false more h = h
 
-a_parameter : (ps : List Parameter) (name : Text) (k : ℕ) → k < length (names_of ps) → name_at (names_of ps) k ≡ name → is_parameter ps name ≡ true
+a_parameter : (ps : List Parameter) (name : Text) (k : ℕ) → k < length (parameter_names_of ps) → name_at (parameter_names_of ps) k ≡ name → names_parameter ps name ≡ true
 a_parameter [] name k h is = absurd (omega (arith, h))
-a_parameter (p ∷ ps) name zero h is = ap (λ b. b || is_parameter ps name) ((bytes_eq-Decides (lexeme p.name.token) name).1 is)
-a_parameter (p ∷ ps) name (suc k) h is = either (bytes_eq (lexeme p.name.token) name) (is_parameter ps name) (a_parameter ps name k (omega (arith, h)) is)
+a_parameter (p ∷ ps) name zero h is = ap (λ b. b || names_parameter ps name) ((bytes_eq-Decides (lexeme p.name.token) name).1 is)
+a_parameter (p ∷ ps) name (suc k) h is = either (bytes_eq (lexeme p.name.token) name) (names_parameter ps name) (a_parameter ps name k (omega (arith, h)) is)
 
-named_by : (ps : List Parameter) (name : Text) (o : Option ℕ) → IsLast (names_of ps) (length (names_of ps)) name o → is_some o ≡ is_parameter ps name
+named_by : (ps : List Parameter) (name : Text) (o : Option ℕ) → IsLast (parameter_names_of ps) (length (parameter_names_of ps)) name o → is_some o ≡ names_parameter ps name
 named_by ps name None last = sym (no_parameter ps name last)
 named_by ps name (Some k) last = sym (a_parameter ps name k last.0 last.1)
 
 -- whether a look-up has a name that is looked up
-pub named_index : (ps : List Parameter) (names : List Text) (found : Text → Option ℕ) (key name : Text) (has b : Bool) → names ≡ names_of ps → IsIndex names found → key ≡ name → has ≡ is_some (found key) → has ≡ b
-    → is_parameter ps name ≡ b
+pub named_index : (ps : List Parameter) (names : List Text) (found : Text → Option ℕ) (key name : Text) (has b : Bool) → names ≡ parameter_names_of ps → IsIndex names found → key ≡ name → has ≡ is_some (found key) → has ≡ b
+    → names_parameter ps name ≡ b
 named_index ps names found key name has b all index is known it =
     sym (named_by ps name (found name) (subst (λ ns. IsIndex ns found) all index name)) ∙ sym (known ∙ ap (λ n. is_some (found n)) is) ∙ it
 
@@ -101,21 +101,21 @@ looked_at ps ss n s b so_far within is fit =
     ∙ ap (λ c. if c then misfit_from ps (take n ss ++ s ∷ []) (drop (n + 1) ss) else Some s.at) fit
 
 -- one that speaks of no parameter, one of which another spoke, and one that fits
-pub unknown_told : (ps : List Parameter) (ss : List Spoken) (n : ℕ) (s : Spoken) → misfit ps ss ≡ misfit_from ps (take n ss) (drop n ss) → n < length ss → s ≡ get_or ss n s → is_parameter ps s.options.parameter ≡ false
+pub unknown_told : (ps : List Parameter) (ss : List Spoken) (n : ℕ) (s : Spoken) → misfit ps ss ≡ misfit_from ps (take n ss) (drop n ss) → n < length ss → s ≡ get_or ss n s → names_parameter ps s.options.parameter ≡ false
     → misfit ps ss ≡ Some s.at
 unknown_told ps ss n s so_far within is unknown =
     looked_at ps ss n s false so_far within is (ap (λ b. if b then not (is_some (options_of (take n ss) s.options.parameter)) else false) unknown)
 
-fit_by : (ps : List Parameter) (before : List Spoken) (name : Text) (again : Bool) → is_parameter ps name ≡ true → is_some (options_of before name) ≡ again → fits ps before name ≡ not again
+fit_by : (ps : List Parameter) (before : List Spoken) (name : Text) (again : Bool) → names_parameter ps name ≡ true → is_some (options_of before name) ≡ again → fits ps before name ≡ not again
 fit_by ps before name again known is = ap (λ b. if b then not (is_some (options_of before name)) else false) known ∙ ap not is
 
-pub again_told : (ps : List Parameter) (ss : List Spoken) (found : Text → Option ℕ) (n : ℕ) (s : Spoken) → Looked ps ss found n → n < length ss → s ≡ get_or ss n s → is_parameter ps s.options.parameter ≡ true
+pub again_told : (ps : List Parameter) (ss : List Spoken) (found : Text → Option ℕ) (n : ℕ) (s : Spoken) → Looked ps ss found n → n < length ss → s ≡ get_or ss n s → names_parameter ps s.options.parameter ≡ true
     → is_some (found s.options.parameter) ≡ true → misfit ps ss ≡ Some s.at
 again_told ps ss found n s looked within is known again =
     let name = s.options.parameter in
     looked_at ps ss n s false looked.so_far within is (fit_by ps (take n ss) name true known (said_before ss name n (found name) within (looked.index name) ∙ again))
 
-pub fits_on : (ps : List Parameter) (ss : List Spoken) (found : Text → Option ℕ) (n : ℕ) (s : Spoken) → Looked ps ss found n → n < length ss → s ≡ get_or ss n s → is_parameter ps s.options.parameter ≡ true
+pub fits_on : (ps : List Parameter) (ss : List Spoken) (found : Text → Option ℕ) (n : ℕ) (s : Spoken) → Looked ps ss found n → n < length ss → s ≡ get_or ss n s → names_parameter ps s.options.parameter ≡ true
     → is_some (found s.options.parameter) ≡ false → misfit ps ss ≡ misfit_from ps (take (n + 1) ss) (drop (n + 1) ss)
 fits_on ps ss found n s looked within is known new =
     let name = s.options.parameter in

@@ -45,10 +45,10 @@ use Rattle.just_bench_lines.specs.Alias.{alias_line}
 use Rattle.just_bench_lines.specs.Attributes.{attribute as attribute_line}
 use Rattle.just_bench_lines.specs.Body.{body_line, indent}
 use Rattle.just_bench_lines.specs.Definitions as definitions
-use Rattle.just_bench_lines.specs.Heading.{heading}
+use Rattle.just_bench_lines.specs.Heading.{heading_in_line}
 use Rattle.just_bench_syntax.specs.Items as items
 use Rattle.just_bench_lines.specs.Meaning as said
-use Rattle.just_bench_lines.specs.Places.{literal_at, name_at, stands, word_at, is_assign, is_comma, is_name, is_paren_close, is_paren_open}
+use Rattle.just_bench_lines.specs.Places.{literal_at, read_name_at, stands, word_at, is_assign, is_comma, is_name_kind, is_paren_close, is_paren_open}
 use Rattle.just_bench_syntax.specs.Proper.{IsProper}
 use Rattle.just_bench_syntax.specs.Recipe.{recipe}
 use Rattle.just_bench_syntax.proofs.Marks.{MarkSaid, mark_said}
@@ -70,7 +70,7 @@ abbrev pub MaybeFine : Option Meaning → Type 0
 MaybeFine None = Unit {0}
 MaybeFine (Some m) = IsFine m
 
-or_fine : (x y : Option Meaning) → MaybeFine x → MaybeFine y → MaybeFine (said.or_else x y)
+or_fine : (x y : Option Meaning) → MaybeFine x → MaybeFine y → MaybeFine (said.first_there x y)
 or_fine None y p q = q
 or_fine (Some x) y p q = p
 
@@ -99,7 +99,7 @@ assigned_bare : (name : Name) (eager export : Bool) (value : Option Expression) 
 assigned_bare name eager export None = tt
 assigned_bare name eager export (Some value) = refl
 
-by_bare : (all : List Lexeme) (at : ℕ) (eager export : Bool) (name : Option Name) → AssignmentBare (definitions.assignment_by all at eager export name)
+by_bare : (all : List Lexeme) (at : ℕ) (eager export : Bool) (name : Option Name) → AssignmentBare (definitions.assignment_in_line all at eager export name)
 by_bare all at eager export None = tt
 by_bare all at eager export (Some name) =
     either AssignmentBare (stands is_assign all (at + 1)) (definitions.assigned name eager export (definitions.whole_expression all (at + 2))) None
@@ -107,7 +107,7 @@ by_bare all at eager export (Some name) =
 
 at_bare : (all : List Lexeme) (at : ℕ) (eager export : Bool) → AssignmentBare (definitions.assignment_at all at eager export)
 unfolding definitions.assignment_at
-at_bare all at eager export = by_bare all at eager export (name_at all at)
+at_bare all at eager export = by_bare all at eager export (read_name_at all at)
 
 assignment_bare : (all : List Lexeme) → AssignmentBare (definitions.assignment all)
 assignment_bare all =
@@ -128,7 +128,7 @@ parameters_bare : (at : ℕ) (ls : List Lexeme) → ManyBare (definitions.parame
 parameters_bare at [] = tt
 parameters_bare at (l ∷ []) = either ManyBare (is_paren_close l.kind) (Some ([], at + 1)) None refl tt
 parameters_bare at (l ∷ m ∷ rest) =
-    either ManyBare (is_name l.kind) _ _
+    either ManyBare (is_name_kind l.kind) _ _
     (either ManyBare (is_comma m.kind) _ _
     (either ManyBare (definitions.closes rest) None _ tt (and_bare l (definitions.parameters_from (at + 2) rest) (parameters_bare (at + 2) rest)))
     (either ManyBare (is_paren_close m.kind) (Some (definitions.function_parameter l ∷ [], at + 2)) None refl tt))
@@ -148,7 +148,7 @@ with_bare all name (Some found) p =
     either FunctionBare (stands is_assign all found.1) (definitions.with_body name found.0 (definitions.whole_expression all (found.1 + 1))) None
     (body_bare name found.0 (definitions.whole_expression all (found.1 + 1)) p) tt
 
-function_bare : (all : List Lexeme) (name : Option Name) → FunctionBare (definitions.function_by all name)
+function_bare : (all : List Lexeme) (name : Option Name) → FunctionBare (definitions.function_in_line all name)
 unfolding definitions.parameters
 function_bare all None = tt
 function_bare all (Some name) =
@@ -160,7 +160,7 @@ abbrev pub StatementProper : Option Statement → Type 0
 StatementProper None = Unit {0}
 StatementProper (Some s) = IsProper (items.item_of s)
 
-or_proper : (x y : Option Statement) → StatementProper x → StatementProper y → StatementProper (said.or_else x y)
+or_proper : (x y : Option Statement) → StatementProper x → StatementProper y → StatementProper (said.first_there x y)
 or_proper None y p q = q
 or_proper (Some x) y p q = p
 
@@ -195,7 +195,7 @@ statement_proper all =
     (or_proper (option_map statements.Sets (definitions.set all)) _ (set_proper (definitions.set all))
     (or_proper (option_map statements.Unexports (definitions.unexport all)) _ (unexport_proper (definitions.unexport all))
     (or_proper (option_map statements.Assigns (definitions.assignment all)) _ (assign_proper (definitions.assignment all) (assignment_bare all))
-    (define_proper (definitions.function all) (function_bare all (name_at all 0))))))
+    (define_proper (definitions.function all) (function_bare all (read_name_at all 0))))))
 
 stated_fine : (s : Option Statement) → StatementProper s → MaybeFine (option_map meaning.States s)
 stated_fine None p = tt
@@ -212,13 +212,13 @@ sorted_fine all = bad_fine _
     (or_fine (option_map meaning.Marks (attribute_line all)) _ (marked_fine (attribute_line all) (mark_said all))
     (or_fine (option_map meaning.Aliases (alias_line all)) _ (alias_fine (alias_line all))
     (or_fine (option_map meaning.States (said.statement all)) _ (stated_fine (said.statement all) (statement_proper all))
-    (begun_fine (heading all) (heading_fresh all))))))
+    (begun_fine (heading_in_line all) (heading_fresh all))))))
 
 lexemes_fine : (found : Option (List Lexeme)) → IsFine (said.or_plain (said.sharp_by found)).meaning
 lexemes_fine None = tt
 lexemes_fine (Some all) = sorted_fine all
 
-from_fine : (path text : List ℕ) (line : TextLine) (bytes : List ℕ) → IsFine (said.said_from path text line bytes).meaning
+from_fine : (path text : List ℕ) (line : TextLine) (bytes : List ℕ) → IsFine (said.said_by_front path text line bytes).meaning
 unfolding said.sharp
 from_fine path text line [] = tt
 from_fine path text line (b ∷ rest) =
@@ -226,8 +226,8 @@ from_fine path text line (b ∷ rest) =
     (either (λ (s : Said). IsFine s.meaning) (is_blank b) (said.plain meaning.Indented) _ tt
     (lexemes_fine (lexemes path text line 0 (length line.text))))
 
-said_fine : (path text : List ℕ) (line : TextLine) → IsFine (said.said path text line).meaning
-unfolding said.said
+said_fine : (path text : List ℕ) (line : TextLine) → IsFine (said.said_by_line path text line).meaning
+unfolding said.said_by_line
 said_fine path text line = from_fine path text line line.text
 
 -- attributes with more said beside them
@@ -288,7 +288,7 @@ recipe_steady r (Ok made) steady proper = record {
   said = λ k d within. absurd (omega (arith, within));
 }
 
-module_steady_by : (r : Reading) (d : Declaration) (spoken : List Spoken) → IsSteady r → Goes (items.module_by r d spoken)
+module_steady_by : (r : Reading) (d : Declaration) (spoken : List Spoken) → IsSteady r → Goes (items.module_after r d spoken)
 module_steady_by r d [] steady = record {
   proper = All-push IsProper r.items (item.Module d.name d.path None r.attributes None d.optional) steady.proper (record { bare = refl; priors = tt; attributes = tt });
   said = λ k d within. absurd (omega (arith, within));
@@ -322,7 +322,7 @@ dropped_steady : (path text : List ℕ) (line : TextLine) (size : ℕ) (r : Read
 dropped_steady path text line size r None steady = tt
 dropped_steady path text line size r (Some start) steady = body_steady path text line size start r (body_line path text line start) steady
 
-meaning_steady : (path text : List ℕ) (line : TextLine) (m : Meaning) (r : Reading) → IsSteady r → IsFine m → Goes (items.with_meaning path text line m r)
+meaning_steady : (path text : List ℕ) (line : TextLine) (m : Meaning) (r : Reading) → IsSteady r → IsFine m → Goes (items.after_meaning path text line m r)
 meaning_steady path text line meaning.Bad r steady fine = tt
 meaning_steady path text line meaning.Ignored r steady fine = steady
 meaning_steady path text line meaning.Indented r steady fine =
@@ -344,9 +344,9 @@ uses_steady lists (Ok r) steady = record { proper = steady.proper; said = steady
 lines_steady : (path text : List ℕ) (r : Reading) (ls : List TextLine) → IsSteady r → Goes (items.with_lines path text r ls)
 lines_steady path text r [] steady = steady
 lines_steady path text r (line ∷ rest) steady =
-    onward_steady IsSteady (items.with_said path text line (said.said path text line) r) (λ more. items.with_lines path text more rest)
-    (uses_steady (said.said path text line).lists (items.with_meaning path text line (said.said path text line).meaning r)
-    (meaning_steady path text line (said.said path text line).meaning r steady (said_fine path text line)))
+    onward_steady IsSteady (items.with_said path text line (said.said_by_line path text line) r) (λ more. items.with_lines path text more rest)
+    (uses_steady (said.said_by_line path text line).lists (items.after_meaning path text line (said.said_by_line path text line).meaning r)
+    (meaning_steady path text line (said.said_by_line path text line).meaning r steady (said_fine path text line)))
     (λ more s. lines_steady path text more rest s)
 
 finished_proper_by : (r : Reading) (first : Option Place) → IsSteady r → IfOk (items.finished_by r first) (λ (i : Items). All IsProper i.items)
@@ -357,12 +357,12 @@ finished_proper : (r : Reading) → IsSteady r → IfOk (items.finished r) (λ (
 finished_proper r steady = finished_proper_by r r.first steady
 
 -- the items of a text have no numbers, their priors are dependencies, and their attributes name parameters
-pub items_proper : (path text : List ℕ) → IfOk (items.items_of path text) (λ (i : Items). All IsProper i.items)
-unfolding items.items_of
+pub items_proper : (path text : List ℕ) → IfOk (items.items_in_text path text) (λ (i : Items). All IsProper i.items)
+unfolding items.items_in_text
 items_proper path text =
     onward_steady (λ (i : Items). All IsProper i.items) (items.with_lines path text items.unread (lines_of text)) items.finished
     (lines_steady path text items.unread (lines_of text) (record { proper = λ k d within. absurd (omega (arith, within)); said = λ k d within. absurd (omega (arith, within)) }))
     finished_proper
 
-pub found_proper : (path text : List ℕ) (found : Result Items Place) → found ≡ items.items_of path text → IfOk found (λ (i : Items). All IsProper i.items)
+pub found_proper : (path text : List ℕ) (found : Result Items Place) → found ≡ items.items_in_text path text → IfOk found (λ (i : Items). All IsProper i.items)
 found_proper path text found is = subst (λ r. IfOk r (λ (i : Items). All IsProper i.items)) (sym is) (items_proper path text)

@@ -29,7 +29,7 @@ use Rattle.just_bench_lines.specs.declared.meaning.Said.{Said}
 use Rattle.just_bench_lines.specs.declared.meaning.Statement.{Statement}
 use Rattle.just_bench_lines.specs.declared.meaning.Statement.TheVariants as statements
 use Rattle.just_bench_lines.specs.Body.{body_line, indent}
-use Rattle.just_bench_lines.specs.Meaning.{said}
+use Rattle.just_bench_lines.specs.Meaning.{said_by_line}
 use Rattle.just_bench_stops.specs.Body.{body_stop}
 use Rattle.just_bench_stops.specs.Stops.{line_stop}
 use Rattle.just_bench_syntax.specs.Recipe.{recipe}
@@ -85,16 +85,16 @@ abbrev pub with_recipe_of : Reading → Result (Recipe UnresolvedDependency) Pla
 with_recipe_of reading (Err at) = Err at
 with_recipe_of reading (Ok r) = Ok (record reading { items = reading.items ++ item.Recipe r ∷ []; attributes = []; spoken = []; first = None; body = body.Begins })
 
-abbrev pub with_recipe : Reading → Heading → Result Reading Place
-with_recipe reading h = with_recipe_of reading (recipe h reading.attributes reading.spoken)
+abbrev pub after_recipe : Reading → Heading → Result Reading Place
+after_recipe reading h = with_recipe_of reading (recipe h reading.attributes reading.spoken)
 
 -- a module with the attributes before it, none of which speaks of a parameter
-abbrev pub module_by : Reading → Declaration → List Spoken → Result Reading Place
-module_by reading declared [] = Ok (record reading { items = reading.items ++ item.Module declared.name declared.path None reading.attributes None declared.optional ∷ []; attributes = []; first = None; body = body.Closed })
-module_by reading declared (s ∷ rest) = Err s.at
+abbrev pub module_after : Reading → Declaration → List Spoken → Result Reading Place
+module_after reading declared [] = Ok (record reading { items = reading.items ++ item.Module declared.name declared.path None reading.attributes None declared.optional ∷ []; attributes = []; first = None; body = body.Closed })
+module_after reading declared (s ∷ rest) = Err s.at
 
 abbrev pub with_module : Reading → Declaration → Result Reading Place
-with_module reading declared = module_by reading declared reading.spoken
+with_module reading declared = module_after reading declared reading.spoken
 
 -- a line that begins with `#!`
 abbrev pub begins_shebang : List Fragment → Bool
@@ -123,14 +123,14 @@ dropped body.Begins line size = Some size
 dropped (body.Goes first) line size = if starts_with nat_eq (take size line.text) first then Some (length first) else None
 
 -- the first line of a body says which blanks and tabs are dropped
-abbrev pub begun : TextLine → ℕ → Body → Body
-begun line size body.Begins = body.Goes (take size line.text)
-begun line size it = it
+abbrev pub begun_body : TextLine → ℕ → Body → Body
+begun_body line size body.Begins = body.Goes (take size line.text)
+begun_body line size it = it
 
 abbrev pub with_body_line : List ℕ → List ℕ → TextLine → ℕ → ℕ → Reading → Option BodyLine → Result Reading Place
 with_body_line path text line size start reading None = Err (body_stop path text line start)
 with_body_line path text line size start reading (Some made) =
-    Ok (record reading { items = at_last (add_line made.line) reading.items; lists = reading.lists ++ made.lists; body = begun line size reading.body })
+    Ok (record reading { items = at_last (add_line made.line) reading.items; lists = reading.lists ++ made.lists; body = begun_body line size reading.body })
 
 -- an indented line: one of a body, or told as a whole where none may stand
 abbrev pub with_dropped : List ℕ → List ℕ → TextLine → ℕ → Reading → Option ℕ → Result Reading Place
@@ -143,15 +143,15 @@ with_body path text line reading =
     if indent line == length line.text then Ok reading else with_dropped path text line (indent line) reading (dropped reading.body line (indent line))
 
 -- after a line that means this
-abbrev pub with_meaning : List ℕ → List ℕ → TextLine → Meaning → Reading → Result Reading Place
-with_meaning path text line meaning.Bad reading = Err (line_stop path text line)
-with_meaning path text line meaning.Ignored reading = Ok reading
-with_meaning path text line meaning.Indented reading = with_body path text line reading
-with_meaning path text line (meaning.Marks mark) reading = Ok (with_mark reading (line_place path text line) mark)
-with_meaning path text line (meaning.Begins h) reading = with_recipe reading h
-with_meaning path text line (meaning.Declares declared) reading = with_module reading declared
-with_meaning path text line (meaning.Aliases it) reading = with_item reading (alias_item it)
-with_meaning path text line (meaning.States it) reading = with_item reading (item_of it)
+abbrev pub after_meaning : List ℕ → List ℕ → TextLine → Meaning → Reading → Result Reading Place
+after_meaning path text line meaning.Bad reading = Err (line_stop path text line)
+after_meaning path text line meaning.Ignored reading = Ok reading
+after_meaning path text line meaning.Indented reading = with_body path text line reading
+after_meaning path text line (meaning.Marks mark) reading = Ok (with_mark reading (line_place path text line) mark)
+after_meaning path text line (meaning.Begins h) reading = after_recipe reading h
+after_meaning path text line (meaning.Declares declared) reading = with_module reading declared
+after_meaning path text line (meaning.Aliases it) reading = with_item reading (alias_item it)
+after_meaning path text line (meaning.States it) reading = with_item reading (item_of it)
 
 -- for what follows
 abbrev pub onward : {A B : Type 0} → Result A Place → (A → Result B Place) → Result B Place
@@ -164,12 +164,12 @@ with_uses lists (Err at) = Err at
 with_uses lists (Ok reading) = Ok (record reading { lists = reading.lists ++ lists })
 
 abbrev pub with_said : List ℕ → List ℕ → TextLine → Said → Reading → Result Reading Place
-with_said path text line it reading = with_uses it.lists (with_meaning path text line it.meaning reading)
+with_said path text line it reading = with_uses it.lists (after_meaning path text line it.meaning reading)
 
 -- after lines
 abbrev pub with_lines : List ℕ → List ℕ → Reading → List TextLine → Result Reading Place
 with_lines path text reading [] = Ok reading
-with_lines path text reading (line ∷ rest) = onward (with_said path text line (said path text line) reading) (λ more. with_lines path text more rest)
+with_lines path text reading (line ∷ rest) = onward (with_said path text line (said_by_line path text line) reading) (λ more. with_lines path text more rest)
 
 -- before any line
 abbrev pub unread : Reading
@@ -184,5 +184,5 @@ abbrev pub finished : Reading → Result Items Place
 finished reading = finished_by reading reading.first
 
 -- the items of a text, or where it does not follow the grammar: at the line of an attribute that does not fit, at an indented line that may not stand there, or where reading of a line stops
-unfoldable pub items_of : List ℕ → List ℕ → Result Items Place
-items_of path text = onward (with_lines path text unread (lines_of text)) finished
+unfoldable pub items_in_text : List ℕ → List ℕ → Result Items Place
+items_in_text path text = onward (with_lines path text unread (lines_of text)) finished

@@ -4,5 +4,5 @@ use Rattle.just_parts.specs.Items.{Item}
 use Rattle.just_parts.specs.Syntax.{numbers_of_items}
 
 -- how many numbers items take
-abbrev pub counted : List Item → ℕ
-counted items = length (numbers_of_items items)
+abbrev pub numbers_counted : List Item → ℕ
+numbers_counted items = length (numbers_of_items items)

@@ -13,19 +13,19 @@ use Rattle.just_ast_definitions.specs.declared.attribute.NamedAttribute.{NamedAt
 use Rattle.just_ast_expressions.specs.declared.expression.Expression.{Expression}
 use Rattle.just_ast_definitions.specs.declared.parameter.Parameter.{Parameter}
 use Rattle.just_bench_lines.specs.declared.heading.Heading.{Heading}
-use Rattle.just_bench_lines.specs.Definitions.{is_private}
+use Rattle.just_bench_lines.specs.Definitions.{has_low_name}
 use Rattle.just_bench_syntax.specs.declared.recipe.Spoken.{Spoken}
 
 -- what attributes say of the parameter of a name
 abbrev pub options_of : List Spoken → List ℕ → Option Spoken
 options_of spoken name = find (λ (s : Spoken). bytes_eq s.options.parameter name) spoken
 
-abbrev pub is_parameter : List Parameter → List ℕ → Bool
-is_parameter parameters name = list_any (λ (p : Parameter). bytes_eq (lexeme p.name.token) name) parameters
+abbrev pub names_parameter : List Parameter → List ℕ → Bool
+names_parameter parameters name = list_any (λ (p : Parameter). bytes_eq (lexeme p.name.token) name) parameters
 
 -- the names of parameters, and those that attributes speak of
-abbrev pub names_of : List Parameter → List (List ℕ)
-names_of = map (λ (p : Parameter). lexeme p.name.token)
+abbrev pub parameter_names_of : List Parameter → List (List ℕ)
+parameter_names_of = map (λ (p : Parameter). lexeme p.name.token)
 
 -- for the private functions: what is said of each name stands at the place that is found for it
 abbrev pub AreFoundNames : List Spoken → (List ℕ → Option ℕ) → Type 0
@@ -33,7 +33,7 @@ AreFoundNames spoken place = (name : List ℕ) → options_of spoken name ≡ op
 
 -- an attribute fits that speaks of a parameter, of which none before it does
 abbrev pub fits : List Parameter → List Spoken → List ℕ → Bool
-fits parameters before name = if is_parameter parameters name then not (is_some (options_of before name)) else false
+fits parameters before name = if names_parameter parameters name then not (is_some (options_of before name)) else false
 
 -- the first attribute that does not fit, after those before it
 abbrev pub misfit_from : List Parameter → List Spoken → List Spoken → Option Place
@@ -44,12 +44,12 @@ abbrev pub misfit : List Parameter → List Spoken → Option Place
 misfit parameters spoken = misfit_from parameters [] spoken
 
 -- a parameter with what is said of it
-abbrev pub given : Option Spoken → Parameter → Parameter
-given None p = p
-given (Some s) p = record p { long = s.options.long; short = s.options.short; flag = s.options.flag }
+abbrev pub with_spoken : Option Spoken → Parameter → Parameter
+with_spoken None p = p
+with_spoken (Some s) p = record p { long = s.options.long; short = s.options.short; flag = s.options.flag }
 
 abbrev pub with_options : List Spoken → Parameter → Parameter
-with_options spoken p = given (options_of spoken (lexeme p.name.token)) p
+with_options spoken p = with_spoken (options_of spoken (lexeme p.name.token)) p
 
 -- the attribute `private`
 abbrev pub is_private_mark : Attribute Expression → Bool
@@ -72,7 +72,7 @@ made_of h attributes spoken = record {
   number = no_number;
   parameters = map (with_options spoken) h.parameters;
   priors = length h.priors;
-  private = is_private h.name || list_any says_private attributes;
+  private = has_low_name h.name || list_any says_private attributes;
   quiet = h.quiet;
   shebang = false;
   module_path = None;
@@ -81,9 +81,9 @@ made_of h attributes spoken = record {
 }
 
 -- the recipe of a heading after these attributes, or the first of them that does not fit
-abbrev pub recipe_by : Heading → List (NamedAttribute Expression) → List Spoken → Option Place → Result (Recipe UnresolvedDependency) Place
-recipe_by h attributes spoken None = Ok (made_of h attributes spoken)
-recipe_by h attributes spoken (Some at) = Err at
+abbrev pub recipe_after : Heading → List (NamedAttribute Expression) → List Spoken → Option Place → Result (Recipe UnresolvedDependency) Place
+recipe_after h attributes spoken None = Ok (made_of h attributes spoken)
+recipe_after h attributes spoken (Some at) = Err at
 
 unfoldable pub recipe : Heading → List (NamedAttribute Expression) → List Spoken → Result (Recipe UnresolvedDependency) Place
-recipe h attributes spoken = recipe_by h attributes spoken (misfit h.parameters spoken)
+recipe h attributes spoken = recipe_after h attributes spoken (misfit h.parameters spoken)

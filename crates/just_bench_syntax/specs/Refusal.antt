@@ -7,21 +7,21 @@ use Rattle.just_errors.specs.declared.compile_error.CompileErrorKind.TheVariants
 use Rattle.just_errors.specs.declared.error.Error.{Error}
 use Rattle.just_errors.specs.declared.error.Error.TheVariants as error
 use Rattle.just_bench_expressions.specs.declared.lines.TextLine.{TextLine}
-use Rattle.just_bench_expressions.specs.Lexemes.{place}
+use Rattle.just_bench_expressions.specs.Lexemes.{lexeme_place}
 use Rattle.just_bench_expressions.specs.Lines.{lines_of}
-use Rattle.just_bench_syntax.specs.Items.{items_of}
+use Rattle.just_bench_syntax.specs.Items.{items_in_text}
 
 -- a part of a line of the text
 pub record IsInLine (path text : List ℕ) (token : Place) : Type 0 where
   pub line : TextLine
   pub stands : slice_get (lines_of text) token.line ≡ Some line
   pub within : token.column + token.length ≤ length line.text
-  pub is : token ≡ place path text line token.column token.length
+  pub is : token ≡ lexeme_place path text line token.column token.length
 
 -- the token is where the text is told not to follow the grammar
 pub record IsBadPlace (path text : List ℕ) (e : CompileError) : Type 0 where
   pub kind : e.kind ≡ Syntax
-  pub told : items_of path text ≡ Err e.token
+  pub told : items_in_text path text ≡ Err e.token
   pub place : IsInLine path text e.token
 
 -- why the items of a text could not be made, where so many numbers are wanted, those that were given before among them

@@ -9,20 +9,20 @@ use Rattle.just_parts.specs.declared.layers.shebang.Shebang.{Shebang}
 abbrev pub without_end : Text → Text
 without_end text = take (length text - suffix_len is_ascii_whitespace text) text
 
-abbrev pub trimmed : Text → Text
-trimmed text = without_end (drop (prefix_len is_ascii_whitespace text) text)
+abbrev pub without_blanks : Text → Text
+without_blanks text = without_end (drop (prefix_len is_ascii_whitespace text) text)
 
 abbrev pub is_blank : ℕ → Bool
 is_blank byte = byte == 32
 
 -- the program up to the first blank, and what stands behind it
-abbrev pub said : Text → Option Shebang
-said [] = None
-said (byte ∷ rest) =
+abbrev pub said_program : Text → Option Shebang
+said_program [] = None
+said_program (byte ∷ rest) =
     let text : Text = byte ∷ rest in
-    if list_any is_blank text then Some (record { interpreter = before_first is_blank text; argument = Some (trimmed (after_first is_blank text)) })
+    if list_any is_blank text then Some (record { interpreter = before_first is_blank text; argument = Some (without_blanks (after_first is_blank text)) })
     else Some (record { interpreter = text; argument = None })
 
 -- what stands behind `#!`
 abbrev pub shebang : Text → Option Shebang
-shebang text = if starts_with nat_eq text (codes "#!") then said (trimmed (drop 2 text)) else None
+shebang text = if starts_with nat_eq text (codes "#!") then said_program (without_blanks (drop 2 text)) else None

@@ -9,7 +9,7 @@ use std::alloc::{AllocError, Global};
 
 // The name of a setting.
 fn name_of<'src>(setting: &Setting<'src>) -> &'static str
-    ensures { result.now ≡ spec.name_of setting.now }
+    ensures { result.now ≡ spec.name_of_setting setting.now }
 {
     match setting {
         Setting::AllowDuplicateRecipes(_) => "allow-duplicate-recipes",

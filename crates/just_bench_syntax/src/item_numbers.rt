@@ -3,7 +3,7 @@ ghost use Rattle.std.specs.Prelude.{◌≡◌, ◌≤◌, ◌+◌, ◌^◌, leng
 ghost use Rattle.std.specs.List.{All};
 ghost use Rattle.just_parts.specs.Bare.{bare_assignment, bare_function, bare_function_parameter, bare_item, bare_parameter, bare_recipe};
 ghost use Rattle.just_parts.specs.Syntax.{CameBy, ItemCameBy, function_numbers, item_numbers, numbers_of_items, parameter_numbers, recipe_numbers};
-ghost use Rattle.just_bench_syntax.specs.Numbering.{counted};
+ghost use Rattle.just_bench_syntax.specs.Numbering.{numbers_counted};
 ghost use Rattle.just_bench_syntax.specs.loops.Numbering.{AreNumberedInTurn, Spent};
 
 use just_ast_definitions::{Assignment, FunctionDefinition, FunctionParameter, Parameter};
@@ -149,8 +149,8 @@ pub fn number_items<'src>(
     ensures bare { OnOk result (map bare_item items.new.items ≡ items.old.items) }
     ensures source { OnOk result (All (ItemCameBy source.now) items.new.items) }
     ensures numbered { OnOk result (AreNumberedInTurn numerator.old (numbers_of_items items.new.items) numerator.new) }
-    ensures spent { OnOk result (numerator.new ≡ numerator.old + counted items.old.items) }
-    ensures refused { IfErr result (Spent (numerator.old + counted items.old.items)) }
+    ensures spent { OnOk result (numerator.new ≡ numerator.old + numbers_counted items.old.items) }
+    ensures refused { IfErr result (Spent (numerator.old + numbers_counted items.old.items)) }
     ensures onward { numerator.old ≤ numerator.new }
 {
     for place in 0..items.len() {

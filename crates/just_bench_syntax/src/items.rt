@@ -3,7 +3,7 @@ ghost use Rattle.std.specs.Prelude.{◌≡◌, ◌≤◌, ◌<◌, length, IfOk,
 ghost use Rattle.just_bench_expressions.specs.Lines.{IsLineOf, lines_of};
 ghost use Rattle.std.specs.List.{All};
 ghost use Rattle.just_bench_lines.specs.Body.{indent};
-ghost use Rattle.just_bench_lines.specs.Meaning.{said};
+ghost use Rattle.just_bench_lines.specs.Meaning.{said_by_line};
 ghost use Rattle.just_bench_syntax.specs.Proper.{IsProper};
 ghost use Rattle.just_bench_syntax.specs.Refusal.{IsInLine};
 ghost use Rattle.just_bench_syntax.specs.Items as spec;
@@ -132,7 +132,7 @@ fn add_recipe<'src>(
     reading: &mut Reading<'src>,
     heading: Heading<'src>,
 ) -> Result<Result<(), Token<'src>>, AllocError>
-    ensures { IfOk result (λ told. spec.told told reading.new ≡ spec.with_recipe reading.old heading.entry) }
+    ensures { IfOk result (λ told. spec.told told reading.new ≡ spec.after_recipe reading.old heading.entry) }
 {
     let attributes = replace(&mut reading.attributes, Sequence::new(alloc));
     let spoken = replace(&mut reading.spoken, Sequence::new(alloc));
@@ -249,7 +249,7 @@ fn dropped<'src>(body: &Body<'src>, line: &TextLine<'src>, blanks: usize) -> Opt
 // Keeps the blanks and tabs, so many, that the first line of a body begins with.
 fn begin_body<'src>(line: &TextLine<'src>, blanks: usize, body: &mut Body<'src>)
     requires { blanks ≡ indent line.now }
-    ensures { body.new ≡ spec.begun line.now blanks body.old }
+    ensures { body.new ≡ spec.begun_body line.now blanks body.old }
 {
     if !matches!(body, Body::Begins) {
         return;
@@ -295,7 +295,7 @@ fn add_meaning<'src>(
     reading: &mut Reading<'src>,
 ) -> Result<Result<(), Token<'src>>, AllocError>
     requires { IsLineOf text.now line.now }
-    ensures { IfOk result (λ told. spec.told told reading.new ≡ spec.with_meaning path.now text.now line.now meaning.entry reading.old) }
+    ensures { IfOk result (λ told. spec.told told reading.new ≡ spec.after_meaning path.now text.now line.now meaning.entry reading.old) }
 {
     match meaning {
         Meaning::Bad => Ok(Err(line_stop(alloc, path, text, line)?)),
@@ -321,7 +321,7 @@ fn add_line<'src>(
     reading: &mut Reading<'src>,
 ) -> Result<Result<(), Token<'src>>, AllocError>
     requires { IsLineOf text.now line.now }
-    ensures { IfOk result (λ told. spec.told told reading.new ≡ spec.with_said path.now text.now line.now (said path.now text.now line.now) reading.old) }
+    ensures { IfOk result (λ told. spec.told told reading.new ≡ spec.with_said path.now text.now line.now (said_by_line path.now text.now line.now) reading.old) }
 {
     let Said { meaning, lists } = read_line(alloc, path, text, line)?;
     let told = add_meaning(alloc, path, text, line, meaning, reading)?;
@@ -386,7 +386,7 @@ fn finished<'src>(reading: Reading<'src>) -> Result<Items<'src>, Token<'src>>
 
 /// The items of a text, without numbers, or where it does not follow the grammar: at an attribute that does not fit, at an
 /// indented line that may not stand there, or at what stands where reading of a line stops. The error is want of memory.
-#[tactic(auto, unfolding(crate::specs::Items::items_of))]
+#[tactic(auto, unfolding(crate::specs::Items::items_in_text))]
 pub fn read_items<'src>(
     alloc: Global,
     path: &'src str,
@@ -395,7 +395,7 @@ pub fn read_items<'src>(
 ) -> Result<Result<Items<'src>, Token<'src>>, AllocError>
     requires lines { all.now ≡ lines_of text.now }
     requires within { All (IsLineOf text.now) all.now }
-    ensures is { IfOk result (λ found. found ≡ spec.items_of path.now text.now) }
+    ensures is { IfOk result (λ found. found ≡ spec.items_in_text path.now text.now) }
     ensures proper { IfOk result (λ found. IfOk found (λ it. All IsProper it.items)) }
     ensures told { IfOk result (λ found. IfErr found (IsInLine path.now text.now)) }
 {

@@ -3,7 +3,7 @@ ghost use Rattle.std.specs.Prelude.{◌≡◌, ◌≤◌, ◌<◌, ◌+◌, ◌^
 ghost use Rattle.std.specs.List.{All};
 ghost use Rattle.just_parts.specs.Bare.{bare_ast};
 ghost use Rattle.just_parts.specs.Syntax.{IsFrom, AreNoConstants, AttributesNameParameters, PriorsAreDependencies, components_of, numbers_of_items, AreRising, Refuses};
-ghost use Rattle.just_bench_syntax.specs.Items.{items_of};
+ghost use Rattle.just_bench_syntax.specs.Items.{items_in_text};
 ghost use Rattle.just_bench_syntax.specs.Refusal.{IsInLine, RefusesLine};
 ghost use Rattle.just_bench_syntax.specs.Answers as spec;
 
@@ -51,7 +51,7 @@ impl<'a> PlainSyntax<'a> {
 
 // The fault of a text at a place.
 fn fault_at<'src>(path: &str, text: &str, token: Token<'src>) -> Error<'src>
-    requires told { items_of path.now text.now ≡ Err token }
+    requires told { items_in_text path.now text.now ≡ Err token }
     requires there { IsInLine path.now text.now token }
     ensures { (wanted : ℕ) → RefusesLine path.now text.now result wanted }
 {

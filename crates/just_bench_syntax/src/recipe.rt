@@ -33,7 +33,7 @@ fn names_of<'src>(
     alloc: Global,
     parameters: &[Parameter<'src>],
 ) -> Result<Vec<BorrowedText<'src>>, AllocError>
-    ensures { IfOk result (λ names. names.items ≡ spec.names_of parameters.now) }
+    ensures { IfOk result (λ names. names.items ≡ spec.parameter_names_of parameters.now) }
 {
     let mut names = Vec::new(alloc);
     for parameter in parameters {

@@ -7,14 +7,14 @@ use just_parts::layers::Shebang;
 
 // A text without the blanks before it and after it.
 fn trimmed<'text>(text: &'text str) -> &'text str
-    ensures { result.now ≡ spec.trimmed text.now }
+    ensures { result.now ≡ spec.without_blanks text.now }
 {
     text.trim_ascii()
 }
 
 // The program up to the first blank, and what stands behind it.
 fn said<'text>(text: &'text str) -> Option<Shebang<'text>>
-    ensures { result ≡ spec.said text.now }
+    ensures { result ≡ spec.said_program text.now }
 {
     if text.is_empty() {
         return None;

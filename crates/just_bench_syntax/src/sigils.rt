@@ -10,7 +10,7 @@ use std::alloc::{AllocError, Global};
 
 // The text that a line begins with.
 fn front<'a, 'src>(line: &'a Line<'src>) -> &'a str
-    ensures { result.now ≡ spec.front line.now.fragments }
+    ensures { result.now ≡ spec.front_text line.now.fragments }
 {
     match line.fragments.as_slice().first() {
         Some(Fragment::Text { token }) => token.lexeme(),

@@ -18,7 +18,7 @@ use Rattle.just_ast_definitions.specs.declared.assignment.Assignment.{Assignment
 use Rattle.just_ast_definitions.specs.declared.function_definition.FunctionDefinition.{FunctionDefinition}
 use Rattle.just_ast_expressions.specs.declared.scope.Scope.{Scope}
 use Rattle.just_table.specs.Entries.{find, put, put_all}
-use Rattle.just_bench_values.specs.Constants.{constants_along, constants_by, scope_along, scope_of, step, values_after}
+use Rattle.just_bench_values.specs.Constants.{constants_along, constants_by, scope_along, scope_of, evaluated_again, values_after}
 use Rattle.just_bench_values.specs.Lookup.{constant_name, table_values}
 use Rattle.just_bench_values.specs.declared.lookup.Constant.{Constant}
 use Rattle.just_bench_values.proofs.Ended.{all_settled, stepped}
@@ -49,12 +49,12 @@ module _ (assignments : List (Text × Assignment)) (table : List (Text × Functi
 
   -- one name more
   pub listed_more : (k : ℕ) (old new : List (Text × Constant)) (x : Name) → Settled assignments wanted (texts_of_names names) k old → k < length names → x ≡ get_or names k x →
-      new ≡ put_all constant_name old (constants_by x (find (text_of_name x) assignments) (step wanted (table_values old) (text_of_name x))) → Listed assignments wanted names k old → Listed assignments wanted names (k + 1) new
+      new ≡ put_all constant_name old (constants_by x (find (text_of_name x) assignments) (evaluated_again wanted (table_values old) (text_of_name x))) → Listed assignments wanted names k old → Listed assignments wanted names (k + 1) new
   listed_more k old new x so within is puts listed =
       let same : text_of_name x ≡ name_at (texts_of_names names) k = name_at_place names k x within is in
       let inside : k < length (texts_of_names names) = omega (arith, length-map names text_of_name) in
-      let value : last_values (text_of_name x) ≡ step wanted (table_values old) (text_of_name x) =
-      subst (λ name. last_values name ≡ step wanted (table_values old) name) (sym same) (stepped assignments table overrides set lists (texts_of_names names) is_order k old so inside) in
+      let value : last_values (text_of_name x) ≡ evaluated_again wanted (table_values old) (text_of_name x) =
+      subst (λ name. last_values name ≡ evaluated_again wanted (table_values old) name) (sym same) (stepped assignments table overrides set lists (texts_of_names names) is_order k old so inside) in
       let f : Name → List Constant = λ name. constants_by name (find (text_of_name name) assignments) (last_values (text_of_name name)) in
       puts
       ∙ ap (λ v. put_all constant_name old (constants_by x (find (text_of_name x) assignments) v)) (sym value)

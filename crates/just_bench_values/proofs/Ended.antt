@@ -23,9 +23,9 @@ use Rattle.just_ast_definitions.specs.declared.function_definition.FunctionDefin
 use Rattle.just_ast_expressions.specs.declared.scope.Binding.{Binding}
 use Rattle.just_ast_expressions.specs.declared.scope.Scope.{Scope}
 use Rattle.just_table.specs.Entries.{IsKeyed, IsSorted, find}
-use Rattle.just_bench_values.specs.Constants.{assigned_value, constants_of, demanded, is_settled, overridden_or, step, values_after}
+use Rattle.just_bench_values.specs.Constants.{assigned_value, constants_of, demanded, is_settled, overridden_or, evaluated_again, values_after}
 use Rattle.just_bench_values.specs.Lookup.{constant_name, table_values}
-use Rattle.just_bench_values.specs.Values.{value_of}
+use Rattle.just_bench_values.specs.Values.{value_among_constants}
 use Rattle.just_bench_values.specs.declared.lookup.Constant.{Constant}
 use Rattle.just_bench_values.proofs.Scoped.{binding_names, bindings_of, scope_each, scope_once, values_of_scope}
 use Rattle.just_bench_values.proofs.Reversed.{contains_reverse, names_different}
@@ -98,14 +98,14 @@ module _ (assignments : List (Text × Assignment)) (table : List (Text × Functi
     value_next (suc n) least need a is =
         after_needed wanted next need n ∙ next_value assignments table overrides set lists order is_order k old so inside a is n (omega arith)
 
-    stepped_by : (b : Bool) → wanted.needed next ≡ b → last_values next ≡ step wanted (table_values old) next
+    stepped_by : (b : Bool) → wanted.needed next ≡ b → last_values next ≡ evaluated_again wanted (table_values old) next
     stepped_by false none = after_unneeded wanted next none steps ∙ sym (ap (λ b. if b then assigned_value wanted (table_values old) next else None) none)
     stepped_by true need =
         let found = needed_assigned next need (find next assignments) refl in
         value_next steps (omega (arith, order_short)) need found.0 found.1 ∙ sym (ap (λ b. if b then assigned_value wanted (table_values old) next else None) need)
 
     -- the value in the end is the one among those before
-    pub stepped : last_values next ≡ step wanted (table_values old) next
+    pub stepped : last_values next ≡ evaluated_again wanted (table_values old) next
     stepped = stepped_by (wanted.needed next) refl
 
     no_constants : (b : Bool) → wanted.needed next ≡ b → demanded wanted (table_values old) next ≡ None → constants_of wanted ≡ None
@@ -169,7 +169,7 @@ module _ (assignments : List (Text × Assignment)) (table : List (Text × Functi
       overridden name text need is =
           sym (value_at (suc steps) (omega (arith, order_short)) name (find name assignments) refl)
           ∙ after_needed wanted name need steps
-          ∙ ap (λ o. overridden_or o (option_and_then (λ (a : Assignment). value_of wanted.functions last_values a.value) (find name wanted.assignments))) is
+          ∙ ap (λ o. overridden_or o (option_and_then (λ (a : Assignment). value_among_constants wanted.functions last_values a.value) (find name wanted.assignments))) is
 
       each : (b : Binding) → Contains scope.bindings b → (a : Assignment) × (find (text_of_name b.name) assignments ≡ Some a) × IsBindingOf a b
       each b inside =

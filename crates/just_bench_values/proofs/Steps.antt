@@ -12,7 +12,7 @@ use Rattle.just_ast_definitions.specs.declared.assignment.Assignment.{Assignment
 use Rattle.just_ast_definitions.specs.declared.function_definition.FunctionDefinition.{FunctionDefinition}
 use Rattle.just_table.specs.Entries.{find}
 use Rattle.just_bench_values.specs.Constants.{assigned_value, overridden_or, values_after}
-use Rattle.just_bench_values.specs.Values.{none_bound, value_of}
+use Rattle.just_bench_values.specs.Values.{none_bound, value_among_constants}
 use Rattle.just_bench_values.proofs.Called.{bare_with}
 use Rattle.just_bench_values.proofs.Read.{same_values}
 
@@ -53,14 +53,14 @@ module _ (assignments : List (Text × Assignment)) (table : List (Text × Functi
   needed_is name a is = ap (λ o. option_map_or (λ (x : Assignment). set x.number) o false) is
 
   value_found : (values : Values) (name : Text) (a : Assignment) → find name assignments ≡ Some a →
-      option_and_then (λ (x : Assignment). value_of functions values x.value) (find name (unnumbered assignments)) ≡ value_of functions values a.value
+      option_and_then (λ (x : Assignment). value_among_constants functions values x.value) (find name (unnumbered assignments)) ≡ value_among_constants functions values a.value
   value_found values name a is =
-      ap (option_and_then (λ (x : Assignment). value_of functions values x.value)) (find_unnumbered name assignments ∙ ap (option_map unnumbered_assignment) is)
+      ap (option_and_then (λ (x : Assignment). value_among_constants functions values x.value)) (find_unnumbered name assignments ∙ ap (option_map unnumbered_assignment) is)
       ∙ bare_with 64 functions values none_bound a.value
 
   -- the value of a variable that is assigned
   pub assigned_is : (values : Values) (name : Text) (a : Assignment) → find name assignments ≡ Some a →
-      assigned_value wanted values name ≡ overridden_or (overrides a.number) (value_of functions values a.value)
+      assigned_value wanted values name ≡ overridden_or (overrides a.number) (value_among_constants functions values a.value)
   assigned_is values name a is = λ i. overridden_or (option_and_then (λ (x : Assignment). overrides x.number) (is i)) (value_found values name a is i)
 
   -- it is the same where those of the variables that are read are

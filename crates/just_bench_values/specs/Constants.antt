@@ -19,7 +19,7 @@ use Rattle.just_bench_values.specs.Lookup.{constant_name}
 use Rattle.just_bench_values.specs.declared.lookup.Constant.{Constant}
 use Rattle.just_bench_values.specs.Settings.{settings_of}
 use Rattle.just_bench_values.specs.Counts.{count_fault}
-use Rattle.just_bench_values.specs.Values.{Outcome, value_of}
+use Rattle.just_bench_values.specs.Values.{Outcome, value_among_constants}
 
 -- what overrides a value, or else the value
 abbrev pub overridden_or : Option Text → Outcome → Outcome
@@ -28,16 +28,16 @@ overridden_or override value = option_or (option_map (λ text. text ∷ []) over
 -- the value of a variable among those that have one by now: what overrides it, or what its expression comes to
 abbrev pub assigned_value : Wanted → Values → Text → Outcome
 assigned_value wanted values name =
-    overridden_or (wanted.overrides name) (option_and_then (λ (a : Assignment). value_of wanted.functions values a.value) (find name wanted.assignments))
+    overridden_or (wanted.overrides name) (option_and_then (λ (a : Assignment). value_among_constants wanted.functions values a.value) (find name wanted.assignments))
 
 -- the values of all variables that are needed, evaluated once more
-abbrev pub step : Wanted → Values → Values
-step wanted values name = if wanted.needed name then assigned_value wanted values name else None
+abbrev pub evaluated_again : Wanted → Values → Values
+evaluated_again wanted values name = if wanted.needed name then assigned_value wanted values name else None
 
 -- the values after so many steps from nothing
 unfoldable pub values_after : ℕ → Wanted → Values
 values_after zero wanted name = None
-values_after (suc n) wanted name = step wanted (values_after n wanted) name
+values_after (suc n) wanted name = evaluated_again wanted (values_after n wanted) name
 
 -- what the value of a variable is where it is needed; it is no text where it is not
 abbrev pub demanded : Wanted → Values → Text → Outcome
@@ -79,4 +79,4 @@ abbrev pub scope_of : List (Text × Assignment) → List Name → Wanted → Opt
 scope_of assignments order wanted = option_map (scope_along assignments order) (constants_of wanted)
 
 abbrev pub evaluator : Evaluator
-evaluator = record { constants = constants_of; value = value_of; settings = settings_of; count_fault = λ recipe p. count_fault p.kind }
+evaluator = record { constants = constants_of; value = value_among_constants; settings = settings_of; count_fault = λ recipe p. count_fault p.kind }

@@ -10,7 +10,7 @@ use Rattle.just_ast_definitions.specs.declared.setting.Setting.{Setting}
 use Rattle.just_ast_definitions.specs.declared.setting.Setting.TheVariants as setting
 use Rattle.just_ast_expressions.specs.declared.settings.Settings.{Settings}
 use Rattle.just_ast_expressions.specs.Settings.{default_settings}
-use Rattle.just_bench_values.specs.Values.{Outcome, all_of, one_text, value_of}
+use Rattle.just_bench_values.specs.Values.{Outcome, all_of, one_text, value_among_constants}
 
 -- What is set, where expressions come to these values.
 module _ (value : Expression → Outcome) where
@@ -59,4 +59,4 @@ HasPrograms s = IsSome s.shell × IsSome s.script_interpreter
 
 -- the settings of a module
 abbrev pub settings_of : Functions → Values → List Set → Option Settings
-settings_of functions constants sets = settings_with (value_of functions constants) sets plain_settings
+settings_of functions constants sets = settings_with (value_among_constants functions constants) sets plain_settings

@@ -74,8 +74,8 @@ abbrev pub body_with : (Values → Expression → Outcome) → List (List Text) 
 body_with value arguments f = if length f.parameters == length arguments then value (bound f.parameters arguments) f.body else None
 
 -- a call of a function of the module
-abbrev pub called : (Values → Expression → Outcome) → Functions → Text → List (List Text) → Outcome
-called value functions name arguments = option_and_then (body_with value arguments) (functions name)
+abbrev pub call_outcome : (Values → Expression → Outcome) → Functions → Text → List (List Text) → Outcome
+call_outcome value functions name arguments = option_and_then (body_with value arguments) (functions name)
 
 -- no call has a value
 abbrev pub none_called : Text → List (List Text) → Outcome
@@ -84,8 +84,8 @@ none_called name arguments = None
 -- The value of an expression in which so many calls may stand inside each other, among constants and parameters.
 unfoldable pub value_with : ℕ → Functions → Values → Values → Expression → Outcome
 value_with zero functions constants parameters = evaluated (hiding parameters constants) none_called
-value_with (suc calls) functions constants parameters = evaluated (hiding parameters constants) (called (value_with calls functions constants) functions)
+value_with (suc calls) functions constants parameters = evaluated (hiding parameters constants) (call_outcome (value_with calls functions constants) functions)
 
 -- the value of an expression among constants
-abbrev pub value_of : Functions → Values → Expression → Outcome
-value_of functions constants = value_with 64 functions constants none_bound
+abbrev pub value_among_constants : Functions → Values → Expression → Outcome
+value_among_constants functions constants = value_with 64 functions constants none_bound

@@ -31,7 +31,7 @@ fn value_of<'src>(
     constants: &Table<'src, Constant<'src>>,
     assignment: &Assignment<'src>,
 ) -> Result<Sequence<Text>, Error<'src>>
-    ensures { let value = value.value_of (functions_by_name functions.now) (table_values constants.now) assignment.now.value in
+    ensures { let value = value.value_among_constants (functions_by_name functions.now) (table_values constants.now) assignment.now.value in
         TellsOutcome (spec.overridden_or (get same_number overrides.now assignment.now.number) value) (IsPlaceIn functions.now assignment.now.value) result }
 {
     match overrides.get(&assignment.number) {
@@ -70,7 +70,7 @@ fn add_constant<'src>(
     ensures skipped { let wanted = wanted_by assignments.now functions.now (get same_number overrides.now) (spec.is_asked references.entry) false in
         OnOk result (wanted.needed (text_of_name name.now) ≡ false → constants.new ≡ constants.old) }
     ensures put { let wanted = wanted_by assignments.now functions.now (get same_number overrides.now) (spec.is_asked references.entry) false in
-        let value = spec.step wanted (table_values constants.old) (text_of_name name.now) in
+        let value = spec.evaluated_again wanted (table_values constants.old) (text_of_name name.now) in
         OnOk result (constants.new ≡ put_all constant_name constants.old (spec.constants_by name.now (find (text_of_name name.now) assignments.now) value)) }
     ensures keyed { OnOk result (IsKeyed constant_name constants.old → IsKeyed constant_name constants.new) }
     ensures refused { let wanted = wanted_by assignments.now functions.now (get same_number overrides.now) (spec.is_asked references.entry) false in

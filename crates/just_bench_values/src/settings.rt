@@ -23,7 +23,7 @@ fn text<'src>(
     constants: &Scope<'src>,
     expression: &Expression<'src>,
 ) -> Result<Text, Error<'src>>
-    ensures { let values = value.value_of (functions_by_name functions.now) (scope_values constants.now) in
+    ensures { let values = value.value_among_constants (functions_by_name functions.now) (scope_values constants.now) in
         TellsOutcome (spec.text_with values expression.now) (IsPlaceIn functions.now expression.now) result }
 {
     let value = evaluate_among(alloc, functions, Constants::Listed(constants), expression)?;
@@ -37,7 +37,7 @@ fn texts<'src>(
     constants: &Scope<'src>,
     expressions: &[Expression<'src>],
 ) -> Result<Sequence<Text>, Error<'src>>
-    ensures { let values = value.value_of (functions_by_name functions.now) (scope_values constants.now) in
+    ensures { let values = value.value_among_constants (functions_by_name functions.now) (scope_values constants.now) in
         TellsOutcome (value.all_of (map (spec.text_with values) expressions.now)) (IsPlaceInOne functions.now expressions.now) result }
 {
     let mut texts = Sequence::new(alloc);
@@ -55,7 +55,7 @@ fn interpreter<'src>(
     constants: &Scope<'src>,
     interpreter: &Interpreter<Expression<'src>>,
 ) -> Result<Interpreter<Text>, Error<'src>>
-    ensures { let values = value.value_of (functions_by_name functions.now) (scope_values constants.now) in
+    ensures { let values = value.value_among_constants (functions_by_name functions.now) (scope_values constants.now) in
         TellsOutcome (spec.interpreter_with values interpreter.now) (IsPlaceInOne functions.now (interpreter_expressions interpreter.now)) result }
 {
     let command = text(alloc, functions, constants, &interpreter.command)?;
@@ -76,9 +76,9 @@ fn set<'src>(
     setting: &Setting<'src>,
     settings: &mut Settings,
 ) -> Result<(), Error<'src>>
-    ensures made { let values = value.value_of (functions_by_name functions.now) (scope_values constants.now) in
+    ensures made { let values = value.value_among_constants (functions_by_name functions.now) (scope_values constants.now) in
         OnOk result (spec.setting_with values setting.now settings.old ≡ Some settings.new) }
-    ensures refused { let values = value.value_of (functions_by_name functions.now) (scope_values constants.now) in
+    ensures refused { let values = value.value_among_constants (functions_by_name functions.now) (scope_values constants.now) in
         IfErr result (FaultsAt (spec.setting_with values setting.now settings.old)) }
     ensures told { IfErr result (IsToldIn (IsPlaceInOne functions.now (setting_expressions setting.now))) }
 {

@@ -2,7 +2,7 @@
 ghost use Rattle.std.specs.Prelude.{◌≡◌, List, [], OnOk};
 ghost use Rattle.std.specs.Borrow.{Bor};
 ghost use Rattle.just_names.specs.Name.{text_of_name};
-ghost use Rattle.just_bench_values.specs.loops.Tasks.{Advances, Goes, Sends, opened, variable_in, with_call, with_sum, with_task};
+ghost use Rattle.just_bench_values.specs.loops.Tasks.{Advances, Goes, Sends, sum_opened, variable_in, with_call, with_sum, with_task};
 ghost use Rattle.just_parts.specs.Told.{IsToldIn};
 
 use crate::buffer::Buffer;
@@ -103,7 +103,7 @@ fn variable<'a, 'src>(
 
 // The sink of a sum. One that puts texts together takes the text of a sum as one of a value.
 fn open<'a, 'src>(alloc: Global, state: &mut State<'a, 'src>) -> Result<(), AllocError>
-    ensures { OnOk result (state.new ≡ opened state.old) }
+    ensures { OnOk result (state.new ≡ sum_opened state.old) }
 {
     match &mut state.sink {
         Sink::Joined { text, apart } => {

@@ -78,7 +78,7 @@ pub fn evaluate_among<'a, 'src>(
     constants: Constants<'a, 'src>,
     expression: &Expression<'src>,
 ) -> Result<Sequence<Text>, Error<'src>>
-    ensures { let value = spec.value_of (functions_by_name functions.now) (constant_values constants.entry) expression.now in
+    ensures { let value = spec.value_among_constants (functions_by_name functions.now) (constant_values constants.entry) expression.now in
         TellsOutcome value (IsPlaceIn functions.now expression.now) result }
 {
     let known = Functions {
@@ -100,8 +100,8 @@ pub fn value_of<'src>(
     constants: &Scope<'src>,
     expression: &Expression<'src>,
 ) -> Result<Sequence<Text>, Error<'src>>
-    ensures value { IfOk result (λ value. spec.value_of (functions_by_name functions.now) (scope_values constants.now) (bare expression.now) ≡ Some value) }
-    ensures refused { IfErr result (FaultsAt (spec.value_of (functions_by_name functions.now) (scope_values constants.now) (bare expression.now))) }
+    ensures value { IfOk result (λ value. spec.value_among_constants (functions_by_name functions.now) (scope_values constants.now) (bare expression.now) ≡ Some value) }
+    ensures refused { IfErr result (FaultsAt (spec.value_among_constants (functions_by_name functions.now) (scope_values constants.now) (bare expression.now))) }
     ensures told { IfErr result (IsToldIn (IsPlaceIn functions.now expression.now)) }
 {
     evaluate_among(alloc, functions, Constants::Listed(constants), expression)

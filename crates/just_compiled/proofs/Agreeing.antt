@@ -14,7 +14,7 @@ use Rattle.just_justfile.specs.declared.justfile.Justfile.{Justfile, out-Justfil
 use Rattle.just_justfile.specs.declared.justfile.RecipeKey.{RecipeKey}
 use Rattle.just_justfile.specs.declared.resolution.Resolution.{Resolution}
 use Rattle.just_justfile.specs.declared.resolution.Resolution.TheVariants as resolution
-use Rattle.just_module_contents.specs.Recipes.{name_of, names_of, no_recipe, recipe_at}
+use Rattle.just_module_contents.specs.Recipes.{name_of_recipe, names_of, no_recipe, recipe_at}
 use Rattle.just_module_headers.proofs.Alike.{same_names}
 use Rattle.just_module_recipes.specs.Linked.{name_of_disabled}
 use Rattle.just_module_recipes.specs.Links.{Around, found_by}
@@ -110,7 +110,7 @@ module _ (given : Given) (asts : AstKey → Option Ast) (loaded : List Text) (bu
   nowhere_place both_absent q = cc
   nowhere_place both_nowhere q = refl
 
-  agree_beyond : (x : Text) (c : Justfile) {p : WalkEnd} {e : End} → Agree p e → Agree (trees.beyond x p) (walks.beyond x c e)
+  agree_beyond : (x : Text) (c : Justfile) {p : WalkEnd} {e : End} → Agree p e → Agree (trees.walk_beyond x p) (walks.beyond x c e)
   agree_beyond x c (both_inside shows) = both_inside shows
   agree_beyond x c both_absent = both_absent
   agree_beyond x c both_nowhere = both_nowhere
@@ -120,8 +120,8 @@ module _ (given : Given) (asts : AstKey → Option Ast) (loaded : List Text) (bu
   agree_cond false names = both_nowhere
 
   agree_found : (xs : List Text) (x : Text) (own : List Text) (absent : List (Text × Text)) → is_some (find x absent) ≡ list_any (λ a. bytes_eq a x) own → {o : Option (Module × Forest)} {q : Option Justfile} → FoundAs o q
-      → ((n : Module) (below : Forest) (c : Justfile) → Shows n below c → Agree (trees.beyond x (follow xs n below)) (walks.beyond x c (end_of_names (out-Justfile c).absent_modules (out-Justfile c).modules xs)))
-      → Agree (elim o as (λ _. WalkEnd) [ Some n ↦ trees.beyond x (follow xs n.0 n.1) | None ↦ if list_any (λ a. bytes_eq a x) own then trees.Missing (x ∷ []) else trees.Nowhere ])
+      → ((n : Module) (below : Forest) (c : Justfile) → Shows n below c → Agree (trees.walk_beyond x (follow xs n below)) (walks.beyond x c (end_of_names (out-Justfile c).absent_modules (out-Justfile c).modules xs)))
+      → Agree (elim o as (λ _. WalkEnd) [ Some n ↦ trees.walk_beyond x (follow xs n.0 n.1) | None ↦ if list_any (λ a. bytes_eq a x) own then trees.Missing (x ∷ []) else trees.Nowhere ])
       (elim q as (λ _. End) [ Some j ↦ walks.beyond x j (end_of_names (out-Justfile j).absent_modules (out-Justfile j).modules xs) | None ↦ if is_some (find x absent) then walks.Absent (x ∷ []) else walks.Nowhere ])
   agree_found xs x own absent e (both {n} {below} {c} shows) next = next n below c shows
   agree_found xs x own absent e neither next =
@@ -154,7 +154,7 @@ module _ (given : Given) (asts : AstKey → Option Ast) (loaded : List Text) (bu
     pub shows : Shows n below c
     pub i : ℕ
     pub there : i < length (kept_by given asts n)
-    pub named : name_of (recipe_at (kept_by given asts n) i) ≡ last
+    pub named : name_of_recipe (recipe_at (kept_by given asts n) i) ≡ last
     pub number_is : (recipe_at (kept_by given asts n) i).number ≡ number
     pub stands : StandsInTree n below last
 
@@ -171,9 +171,9 @@ module _ (given : Given) (asts : AstKey → Option Ast) (loaded : List Text) (bu
   Resolves place last None = EndsWell place last → ⊥
 
   -- a recipe that a module's files keep is one that it keeps, by its name
-  kept_named : (n : Module) → Says given asts n → (r : Recipe UnresolvedDependency) → In r (kept_by given asts n) → Contains (names_of (kept_in n)) (name_of r)
+  kept_named : (n : Module) → Says given asts n → (r : Recipe UnresolvedDependency) → In r (kept_by given asts n) → Contains (names_of (kept_in n)) (name_of_recipe r)
   kept_named n says r i =
-      contained (name_of r) (names_of (kept_in n)) (subst (In (name_of r)) (same_names (kept_by given asts n) (kept_in n) says.kept) (in_map name_of r (kept_by given asts n) i))
+      contained (name_of_recipe r) (names_of (kept_in n)) (subst (In (name_of_recipe r)) (same_names (kept_by given asts n) (kept_in n) says.kept) (in_map name_of_recipe r (kept_by given asts n) i))
 
   abbrev answer : Option RecipeKey → Option Disabled → Option (Resolution Number)
   answer o q = elim o as (λ _. Option (Resolution Number)) [
@@ -196,7 +196,7 @@ module _ (given : Given) (asts : AstKey → Option Ast) (loaded : List Text) (bu
         shows = shows;
         i = at.0;
         there = at.1;
-        named = ap (λ (r : Recipe UnresolvedDependency). name_of r) read ∙ k.3;
+        named = ap (λ (r : Recipe UnresolvedDependency). name_of_recipe r) read ∙ k.3;
         number_is = ap (λ (r : Recipe UnresolvedDependency). r.number) read ∙ ap (λ (x : RecipeKey). x.number) (sym k.2);
         stands = subst (StandsInTree n below) k.3 s.1;
       }
@@ -206,7 +206,7 @@ module _ (given : Given) (asts : AstKey → Option Ast) (loaded : List Text) (bu
         | inr wrong ↦ absurd (cc)
         | inl k ↦ (
             let r = from_disabled (DisabledBy n below) is.disabled.1 d k.0 in
-            let name : name_of r.0 ≡ last = sym r.2.name ∙ k.1 in
+            let name : name_of_recipe r.0 ≡ last = sym r.2.name ∙ k.1 in
             record {
               some = r.2.some;
               ends = subst (Contains (names_of (kept_in n))) name (kept_named n shows.says r.0 r.1);
@@ -224,7 +224,7 @@ module _ (given : Given) (asts : AstKey → Option Ast) (loaded : List Text) (bu
       ]
   looked n below c shows last None None f g = λ ends.
       let is = shows.is in
-      let r = from_map name_of last (kept_by given asts n) (is_in last (names_of (kept_by given asts n)) (subst (λ ns. Contains ns last) (sym (same_names (kept_by given asts n) (kept_in n) shows.says.kept)) ends)) in
+      let r = from_map name_of_recipe last (kept_by given asts n) (is_in last (names_of (kept_by given asts n)) (subst (λ ns. Contains ns last) (sym (same_names (kept_by given asts n) (kept_in n) shows.says.kept)) ends)) in
       elim (disabled_or (DisabledBy n below) is.disabled.1 r.0 r.1) [
         | inl stands ↦
             not_found name_of_key last [] (map recipe_key_of is.standing) (ap (find last) (sym is.fields.recipes_are) ∙ f) (recipe_key_of r.0) (in_map recipe_key_of r.0 is.standing (into_standing (StandsInTree n below) is.stand r.0 r.1 stands)) (sym r.2)

@@ -11,10 +11,10 @@ use Rattle.just_justfile.specs.declared.justfile.Justfile.{Justfile, out-Justfil
 use Rattle.just_justfile.specs.declared.justfile.RecipeKey.{RecipeKey}
 use Rattle.just_justfile.specs.declared.resolution.Resolution.{Resolution}
 use Rattle.just_justfile.specs.declared.resolution.Resolution.TheVariants as resolution
-use Rattle.just_module_contents.specs.Recipes.{name_of, no_recipe, recipe_at}
+use Rattle.just_module_contents.specs.Recipes.{name_of_recipe, no_recipe, recipe_at}
 use Rattle.just_module_contents.specs.Rules.{BreaksAliasTargets, unknown_target}
 use Rattle.just_module_contents.specs.Standing.{AreStanding}
-use Rattle.just_module_aliases.specs.Aliased.{Targets, UnknownTargets, as_module, as_recipe, alias_meant, targets}
+use Rattle.just_module_aliases.specs.Aliased.{Targets, UnknownTargets, as_module, as_recipe, alias_meant, alias_targets}
 use Rattle.just_module_recipes.specs.Linked.{HasDisabled, name_of_disabled}
 use Rattle.just_module_recipes.specs.Links.{Around, Disables, HasTarget, PathLeadsTo, IsNameOf, Stands, far, near, to_module, to_recipe}
 use Rattle.just_module_aliases.specs.declared.aliases.AliasMeaning.{AliasMeaning}
@@ -74,31 +74,31 @@ not_here x names absent modules e = go (is_some (find x absent)) (module_named x
 
 module _ (recipes standing : List (Recipe UnresolvedDependency)) (it : Around) (disabled : List (Text × Disabled)) (stand : AreStanding (Stands recipes it) recipes standing) (are : HasDisabled (Disables recipes it) recipes disabled) where
   abbrev t : Targets
-  t = targets it.absent disabled it.modules (recipe_table standing)
+  t = alias_targets it.absent disabled it.modules (recipe_table standing)
 
   -- a recipe of the module is in one of the tables under its name
-  in_tables : (j : ℕ) → j < length recipes → find (name_of (recipe_at recipes j)) (recipe_table standing) ≡ None → find (name_of (recipe_at recipes j)) disabled ≡ None → ⊥
+  in_tables : (j : ℕ) → j < length recipes → find (name_of_recipe (recipe_at recipes j)) (recipe_table standing) ≡ None → find (name_of_recipe (recipe_at recipes j)) disabled ≡ None → ⊥
   in_tables j there none lost =
       let r = recipe_at recipes j in
       let i = is_in r recipes (j, there, get_or_default recipes j r no_recipe there) in
       elim (disabled_or (Disables recipes it) are.1 r i) [
-        | inl stands ↦ not_found name_of_key (name_of r) [] (map recipe_key_of standing) none (recipe_key_of r) (in_map recipe_key_of r standing (into_standing (Stands recipes it) stand r i stands)) refl
-        | inr d ↦ not_found name_of_disabled (name_of r) [] are.0 (ap (find (name_of r)) (sym are.2) ∙ lost) d.0 d.1 d.2
+        | inl stands ↦ not_found name_of_key (name_of_recipe r) [] (map recipe_key_of standing) none (recipe_key_of r) (in_map recipe_key_of r standing (into_standing (Stands recipes it) stand r i stands)) refl
+        | inr d ↦ not_found name_of_disabled (name_of_recipe r) [] are.0 (ap (find (name_of_recipe r)) (sym are.2) ∙ lost) d.0 d.1 d.2
       ]
 
   -- what is in one of the tables is a recipe of the module
-  from_tables : (name : Text) (o : Option RecipeKey) (q : Option Disabled) → find name (recipe_table standing) ≡ o → find name disabled ≡ q → (o ≡ None) × (q ≡ None) ⊎ ((j : ℕ) × (j < length recipes) × (name_of (recipe_at recipes j) ≡ name))
+  from_tables : (name : Text) (o : Option RecipeKey) (q : Option Disabled) → find name (recipe_table standing) ≡ o → find name disabled ≡ q → (o ≡ None) × (q ≡ None) ⊎ ((j : ℕ) × (j < length recipes) × (name_of_recipe (recipe_at recipes j) ≡ name))
   from_tables name (Some key) q e f =
       let k = key_found standing name key e in
       let s = from_standing (Stands recipes it) stand k.0 k.1 in
       let at = contained k.0 recipes s.0 in
-      inr (at.0, at.1, ap (λ (x : Recipe UnresolvedDependency). name_of x) (get_or_default recipes at.0 no_recipe k.0 at.1 ∙ at.2) ∙ k.3)
+      inr (at.0, at.1, ap (λ (x : Recipe UnresolvedDependency). name_of_recipe x) (get_or_default recipes at.0 no_recipe k.0 at.1 ∙ at.2) ∙ k.3)
   from_tables name None (Some d) e f = elim (found_among name_of_disabled name d [] are.0 (ap (find name) (sym are.2) ∙ f)) [
     | inr wrong ↦ absurd (cc)
     | inl k ↦ (
         let r = from_disabled (Disables recipes it) are.1 d k.0 in
         let at = contained r.0 recipes r.1 in
-        inr (at.0, at.1, ap (λ (x : Recipe UnresolvedDependency). name_of x) (get_or_default recipes at.0 no_recipe r.0 at.1 ∙ at.2) ∙ sym r.2.name ∙ k.1))
+        inr (at.0, at.1, ap (λ (x : Recipe UnresolvedDependency). name_of_recipe x) (get_or_default recipes at.0 no_recipe r.0 at.1 ∙ at.2) ∙ sym r.2.name ∙ k.1))
   ]
   from_tables name None None e f = inl (refl, refl)
 
@@ -111,7 +111,7 @@ module _ (recipes standing : List (Recipe UnresolvedDependency)) (it : Around) (
 
     near_lost : (j : ℕ) → IsNameOf recipes path j → recipe_by before (recipe_table standing) disabled last ≡ None → ⊥
     near_lost j names e =
-        let one = one_text path.front path.last (name_of (recipe_at recipes j)) names.named in
+        let one = one_text path.front path.last (name_of_recipe (recipe_at recipes j)) names.named in
         let here : before ≡ Here = ap (λ front. end_of_names it.absent it.modules (map text_of_name front)) one.0 in
         let f = neither (find last (recipe_table standing)) (find last disabled) (ap (λ e. recipe_by e (recipe_table standing) disabled last) (sym here) ∙ e) in
         in_tables j names.there (ap (λ name. find name (recipe_table standing)) (sym one.1) ∙ f.0) (ap (λ name. find name disabled) (sym one.1) ∙ f.1)
@@ -152,7 +152,7 @@ module _ (recipes standing : List (Recipe UnresolvedDependency)) (it : Around) (
         go None e (Some x) f = absurd (lost (to_recipe (near_or path.front refl (λ g. let wrong : Some x ≡ None = sym f ∙ g in cc))))
         go None e None f = refl
 
-  -- so the same targets are unknown
+  -- so the same alias_targets are unknown
   pub unknown_on : (aliases : List (Alias Namepath)) (c : Cause) → UnknownTargets t aliases c → BreaksAliasTargets (HasTarget recipes it) aliases c
   unknown_on aliases _ (unknown_target {alias} there lost) = unknown_target there (nothing_meant alias.target (means_none (alias_meant t alias.target) lost))
 

@@ -43,13 +43,13 @@ use Rattle.just_compiled.proofs.RecipeKeys.{found_among}
 -- where names lead, by the module of the first
 abbrev next_place : List Text → Text → Bool → Option (Module × Forest) → WalkEnd
 next_place names x absent found = elim found as (λ _. WalkEnd) [
-  | Some n ↦ trees.beyond x (follow names n.0 n.1)
+  | Some n ↦ trees.walk_beyond x (follow names n.0 n.1)
   | None ↦ if absent then trees.Missing (x ∷ []) else trees.Nowhere
 ]
 
-beyond_missing : (x : Text) (names : List Text) (p q : WalkEnd) → ((ns : List Text) → p ≡ trees.Missing ns → q ≡ trees.Missing ns) → trees.beyond x p ≡ trees.Missing names → trees.beyond x q ≡ trees.Missing names
+beyond_missing : (x : Text) (names : List Text) (p q : WalkEnd) → ((ns : List Text) → p ≡ trees.Missing ns → q ≡ trees.Missing ns) → trees.walk_beyond x p ≡ trees.Missing names → trees.walk_beyond x q ≡ trees.Missing names
 beyond_missing x names (trees.InModule n below) q ih e = cc
-beyond_missing x names (trees.Missing ns) q ih e = ap (trees.beyond x) (ih ns refl) ∙ e
+beyond_missing x names (trees.Missing ns) q ih e = ap (trees.walk_beyond x) (ih ns refl) ∙ e
 beyond_missing x names trees.Nowhere q ih e = cc
 
 -- where names lead to a module without a file, so do these and more

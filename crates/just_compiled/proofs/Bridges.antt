@@ -20,7 +20,7 @@ use Rattle.just_module_contents.specs.Groups.{Group, OfAliases, OfBodies, OfCons
 use Rattle.just_module_contents.specs.Known.{known_of}
 use Rattle.just_module_contents.specs.RecipeValues.{BreaksRecipe, IsPastLimits}
 use Rattle.just_module_contents.specs.Standing.{InOne, of_standing}
-use Rattle.just_module_contents.specs.Recipes.{DependsOnRecipe, dependency_paths, least_of, most_of, name_of, named_paths, names_of, no_recipe, recipe_at}
+use Rattle.just_module_contents.specs.Recipes.{DependsOnRecipe, dependency_paths, least_of, most_of, name_of_recipe, named_paths, names_of, no_recipe, recipe_at}
 use Rattle.just_module_contents.specs.Resolved.{number_at}
 use Rattle.just_module_contents.specs.Rules.{DependsBy, StandsWith, unknown_target}
 use Rattle.just_module_contents.proofs.Keeping.{kept_different}
@@ -87,16 +87,16 @@ paths_read (d ∷ ds) = ap (λ ps. texts_of_path d.recipe ∷ ps) (paths_read ds
 
 module _ (rs : List (Recipe UnresolvedDependency)) where
   -- a recipe of a name has a place
-  place_named : (name : Text) → Contains (names_of rs) name → (i : ℕ) × (i < length rs) × (name_of (recipe_at rs i) ≡ name)
+  place_named : (name : Text) → Contains (names_of rs) name → (i : ℕ) × (i < length rs) × (name_of_recipe (recipe_at rs i) ≡ name)
   place_named name c =
-      let r = from_map name_of name rs (is_in name (names_of rs) c) in
+      let r = from_map name_of_recipe name rs (is_in name (names_of rs) c) in
       let at = contained r.0 rs r.1 in
-      (at.0, at.1, ap (λ (x : Recipe UnresolvedDependency). name_of x) (get_or_default rs at.0 no_recipe r.0 at.1 ∙ at.2) ∙ sym r.2)
+      (at.0, at.1, ap (λ (x : Recipe UnresolvedDependency). name_of_recipe x) (get_or_default rs at.0 no_recipe r.0 at.1 ∙ at.2) ∙ sym r.2)
 
-  name_there : (i : ℕ) → i < length rs → Contains (names_of rs) (name_of (recipe_at rs i))
+  name_there : (i : ℕ) → i < length rs → Contains (names_of rs) (name_of_recipe (recipe_at rs i))
   name_there i h =
       let r = recipe_at rs i in
-      contained (name_of r) (names_of rs) (in_map name_of r rs (is_in r rs (i, h, get_or_default rs i r no_recipe h)))
+      contained (name_of_recipe r) (names_of rs) (in_map name_of_recipe r rs (is_in r rs (i, h, get_or_default rs i r no_recipe h)))
 
   -- what depends on a path of one name depends on that
   on_name : (name : Text) (d : Namepath) → d.front ≡ [] → DependsBy rs name d → Contains (names_of rs) (text_of_name d.last) → DependsOnRecipe rs name (text_of_name d.last)
@@ -110,7 +110,7 @@ module _ (rs : List (Recipe UnresolvedDependency)) where
         step = record {
           dependent = by.there;
           there = to.1;
-          names = contained (name_of (recipe_at rs to.0) ∷ []) (dependency_paths r) (subst (λ t. In t (dependency_paths r)) (texts_one d one ∙ ap (λ t. t ∷ []) (sym to.2)) i);
+          names = contained (name_of_recipe (recipe_at rs to.0) ∷ []) (dependency_paths r) (subst (λ t. In t (dependency_paths r)) (texts_one d one ∙ ap (λ t. t ∷ []) (sym to.2)) i);
         };
         dependent_is = by.name_is;
         name_is = to.2;
@@ -120,9 +120,9 @@ module _ (rs : List (Recipe UnresolvedDependency)) where
   by_name_of : (name other : Text) → DependsOnRecipe rs name other → (d : Namepath) × DependsBy rs name d × (d.front ≡ []) × (text_of_name d.last ≡ other)
   by_name_of name other on =
       let r = recipe_at rs on.from in
-      let names = subst (In (name_of (recipe_at rs on.to) ∷ [])) (paths_read r.dependencies) (is_in (name_of (recipe_at rs on.to) ∷ []) (dependency_paths r) on.step.names) in
-      let d = from_map texts_of_path (name_of (recipe_at rs on.to) ∷ []) (named_paths r) names in
-      let one = one_text d.0.front d.0.last (name_of (recipe_at rs on.to)) (sym d.2) in
+      let names = subst (In (name_of_recipe (recipe_at rs on.to) ∷ [])) (paths_read r.dependencies) (is_in (name_of_recipe (recipe_at rs on.to) ∷ []) (dependency_paths r) on.step.names) in
+      let d = from_map texts_of_path (name_of_recipe (recipe_at rs on.to) ∷ []) (named_paths r) names in
+      let one = one_text d.0.front d.0.last (name_of_recipe (recipe_at rs on.to)) (sym d.2) in
       (d.0, record { from = on.from; there = on.step.dependent; name_is = on.dependent_is; depends = contained d.0 (named_paths r) d.1 }, one.0, one.1 ∙ on.name_is)
 
 -- what is disabled is kept
@@ -262,7 +262,7 @@ module _ (given : Given) (asts : AstKey → Option Ast) (loaded : List Text) (bu
 
     leads_on : (d : Namepath) → PathLeadsTo (kept m) it d → LeadsSomewhere m inside d
     leads_on d (near j names) =
-        let one = one_text d.front d.last (name_of (recipe_at (kept m) j)) names.named in
+        let one = one_text d.front d.last (name_of_recipe (recipe_at (kept m) j)) names.named in
         subst (λ p. EndsWell p (text_of_name d.last)) (sym (stays m inside d one.0)) (named_on (text_of_name d.last) (subst (Contains (names_of (kept m))) (sym one.1) (name_there (kept m) j names.there)))
     leads_on d (far ne) = ends_of (leads m inside d) (text_of_name d.last) (found_by it d) (means d (found_by it d) refl ne) ne
 
@@ -295,7 +295,7 @@ module _ (given : Given) (asts : AstKey → Option Ast) (loaded : List Text) (bu
       where
         by_parameters : (ps : List Parameter) → HasParameters (kept m) it d ps → least_arguments ps ≡ least → most_arguments lists ps ≡ most → TakesIn lists m inside d least most
         by_parameters ps (of_near j names has) low high =
-            let one = one_text d.front d.last (name_of (recipe_at (kept m) j)) names.named in
+            let one = one_text d.front d.last (name_of_recipe (recipe_at (kept m) j)) names.named in
             record {
               n = m;
               below = inside;
@@ -359,7 +359,7 @@ module _ (given : Given) (asts : AstKey → Option Ast) (loaded : List Text) (bu
         links.of_defaults k.0 k.1 (defaults_alike ss k.0 k.2 c b)
 
     -- the same values are those of expressions, by what its files say and by the tree
-    value_same : (layers : Layers) (e : Evaluated) → links.value_by layers e (said m) ≡ trees.constant_in layers e m
+    value_same : (layers : Layers) (e : Evaluated) → links.value_by_layers layers e (said m) ≡ trees.constant_in layers e m
     value_same layers e = λ i x. layers.evaluator.value (functions_by_name (meets.says.known layers.syntax i).functions) e.constants (bare x)
 
     -- the same rules of one recipe are broken by those that stand
@@ -370,7 +370,7 @@ module _ (given : Given) (asts : AstKey → Option Ast) (loaded : List Text) (bu
     own_on layers e c (of_standing ss are b) =
         let k = standing_alike (Stands (kept m) it) (StandsInTree m inside) stands_on stands_back are (kept_in m) meets.says.kept in
         of_standing k.0 k.1 (subst₂ (λ value known. InOne (rule_at layers e value known) k.0 c) (value_same layers e) (meets.says.known layers.syntax)
-        (rules_alike ss k.0 k.2 (links.value_by layers e (said m)) layers.syntax (known_of layers.syntax (said m)) e.settings c b))
+        (rules_alike ss k.0 k.2 (links.value_by_layers layers e (said m)) layers.syntax (known_of layers.syntax (said m)) e.settings c b))
 
     own_back : (layers : Layers) (e : Evaluated) (c : Cause) → trees.BreaksStandingInTree layers e m inside c → links.BreaksStanding layers e (said m) it c
     own_back layers e c (of_standing ss are b) =
@@ -382,7 +382,7 @@ module _ (given : Given) (asts : AstKey → Option Ast) (loaded : List Text) (bu
     limits_on : (layers : Layers) (e : Evaluated) (c : Cause) → links.IsPastLimitsBy layers e (said m) it c → trees.IsPastLimitsIn layers e m inside c
     limits_on layers e c (of_standing ss are b) =
         let k = standing_alike (Stands (kept m) it) (StandsInTree m inside) stands_on stands_back are (kept_in m) meets.says.kept in
-        of_standing k.0 k.1 (subst (λ value. InOne (IsPastLimits value) k.0 c) (value_same layers e) (limits_alike ss k.0 k.2 (links.value_by layers e (said m)) c b))
+        of_standing k.0 k.1 (subst (λ value. InOne (IsPastLimits value) k.0 c) (value_same layers e) (limits_alike ss k.0 k.2 (links.value_by_layers layers e (said m)) c b))
 
     -- so an error may tell the same of the last groups
     pub told_on : (layers : Layers) (e : Evaluated) (g : Group) (c : Cause) → told_by (said m) it layers e g c → told_in m inside layers e g c
@@ -399,7 +399,7 @@ module _ (given : Given) (asts : AstKey → Option Ast) (loaded : List Text) (bu
     -- the number that a path leads to is that of the tree
     pub number_on : (d : Namepath) (n : Number) → HasNumber (kept m) it d n → HasNumberIn given asts m inside d n
     number_on d n (near_number j names number) =
-        let one = one_text d.front d.last (name_of (recipe_at (kept m) j)) names.named in
+        let one = one_text d.front d.last (name_of_recipe (recipe_at (kept m) j)) names.named in
         record { to = m; below = inside; leads_in = stays m inside d one.0; place = j; there = names.there; named = sym one.1; number_is = number }
     number_on d n (far_number f) =
         let r : IsNumbered given asts loaded built (leads m inside d) (text_of_name d.last) n = means d (Some (resolution.Resolved n)) f (λ g. cc) in
@@ -442,8 +442,8 @@ module _ (given : Given) (asts : AstKey → Option Ast) (loaded : List Text) (bu
           let en : t.n ≡ r.n = cc in
           let in_tree : r.i < length (kept_in r.n) = subst (λ k. r.i < k) (many (kept r.n) (kept_in r.n) r.shows.says.kept) r.there in
           let there : t.j < length (kept_in r.n) = subst (λ (x : Module). t.j < length (kept_in x)) en t.there in
-          let named : name_of (recipe_at (kept_in r.n) t.j) ≡ text_of_name d.recipe.last = subst (λ (x : Module). name_of (recipe_at (kept_in x) t.j) ≡ text_of_name d.recipe.last) en t.named in
-          let name : name_of (recipe_at (kept_in r.n) r.i) ≡ text_of_name d.recipe.last = sym (name_at (kept r.n) (kept_in r.n) r.shows.says.kept r.i) ∙ r.named in
+          let named : name_of_recipe (recipe_at (kept_in r.n) t.j) ≡ text_of_name d.recipe.last = subst (λ (x : Module). name_of_recipe (recipe_at (kept_in x) t.j) ≡ text_of_name d.recipe.last) en t.named in
+          let name : name_of_recipe (recipe_at (kept_in r.n) r.i) ≡ text_of_name d.recipe.last = sym (name_at (kept r.n) (kept_in r.n) r.shows.says.kept r.i) ∙ r.named in
           let same : r.i ≡ t.j = one_place (kept_in r.n) (kept_different (contents_of r.n).recipes) r.i t.j in_tree there (name ∙ sym named) in
           let takes : TakesAsMany q.0 (recipe_at (kept r.n) r.i) = made_held (leads m inside d.recipe) (text_of_name d.recipe.last) number r q.0 q.1 in
           record {
@@ -460,7 +460,7 @@ module _ (given : Given) (asts : AstKey → Option Ast) (loaded : List Text) (bu
             let f : trees.InModule t.n t.below ≡ trees.InModule m inside = sym t.leads_in ∙ stays m inside d.recipe z in
             let en : t.n ≡ m = cc in
             let in_tree : t.j < length (kept_in m) = subst (λ (x : Module). t.j < length (kept_in x)) en t.there in
-            let named : name_of (recipe_at (kept_in m) t.j) ≡ text_of_name d.recipe.last = subst (λ (x : Module). name_of (recipe_at (kept_in x) t.j) ≡ text_of_name d.recipe.last) en t.named in
+            let named : name_of_recipe (recipe_at (kept_in m) t.j) ≡ text_of_name d.recipe.last = subst (λ (x : Module). name_of_recipe (recipe_at (kept_in x) t.j) ≡ text_of_name d.recipe.last) en t.named in
             record {
               parameters = (recipe_at (kept m) t.j).parameters;
               has = of_near t.j (record {

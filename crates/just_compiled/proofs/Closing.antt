@@ -34,7 +34,7 @@ use Rattle.just_module_tree.specs.Modules.{AreModules, Forest, Heading, Module, 
 use Rattle.just_graph.proofs.Index.{some_same}
 use Rattle.std.specs.Option.{option_map}
 use Rattle.just_module_aliases.proofs.Later.{marked_or_none}
-use Rattle.just_module_contents.specs.Recipes.{name_of, no_recipe, recipe_at, recipes_of}
+use Rattle.just_module_contents.specs.Recipes.{name_of_recipe, no_recipe, recipe_at, recipes_of}
 use Rattle.just_module_contents.proofs.RecipePlaces.{number_read, recipe_read}
 use Rattle.just_module_tree.specs.Standing.{StandsInTree as Stands}
 use Rattle.just_compiled.proofs.StandingRecipes.{from_standing}
@@ -98,19 +98,19 @@ module _ (R : Reading) (given : Given) (asts : AstKey → Option Ast) (paths : (
     own_rs = recipes_of given.syntax.enabled is.own.items
 
     -- the recipe that is made of one of those that stand
-    made_held : (r : Recipe UnresolvedDependency) → In r is.standing → (x : Recipe Dependency) × (find_number recipes r.number.0 ≡ Some x) × (x.name ≡ r.name) × (x.module_path ≡ Some (path_of m)) × (x.recipe_path ≡ Some (path_to (path_of m) (name_of r)))
+    made_held : (r : Recipe UnresolvedDependency) → In r is.standing → (x : Recipe Dependency) × (find_number recipes r.number.0 ≡ Some x) × (x.name ≡ r.name) × (x.module_path ≡ Some (path_of m)) × (x.recipe_path ≡ Some (path_to (path_of m) (name_of_recipe r)))
     made_held r i =
         let s = from_standing (Stands m below) is.stand r i in
         let c : Contains rs r = contained r rs s.0 in
         let read : slice_get rs c.0 ≡ Some r = slice_get_read rs (length rs) c.0 r refl c.1 (sym c.2) in
         let same : r ≡ recipe_at rs c.0 = recipe_read rs c.0 r read in
-        let x = is.linked.each c.0 c.1 (subst (λ (q : Recipe UnresolvedDependency). Stands m below (name_of q)) same s.1) in
+        let x = is.linked.each c.0 c.1 (subst (λ (q : Recipe UnresolvedDependency). Stands m below (name_of_recipe q)) same s.1) in
         let to = x.2.made_of.resolved in (
           x.0,
           ap (find_number recipes) (sym (number_read rs c.0 r read)) ∙ ap (λ qs. find_number qs (number_at rs c.0)) all ∙ x.1,
           to.name ∙ ap (λ (q : Recipe UnresolvedDependency). q.name) (sym same),
           to.module_path,
-          to.recipe_path ∙ ap (λ (q : Recipe UnresolvedDependency). Some (path_to (path_of m) (name_of q))) (sym same),
+          to.recipe_path ∙ ap (λ (q : Recipe UnresolvedDependency). Some (path_to (path_of m) (name_of_recipe q))) (sym same),
         )
 
     place_held : (place : ℕ) → place < length is.standing → IsSome (find_number recipes (number_at is.standing place))

@@ -4,7 +4,7 @@ use Rattle.std.specs.List.{AllZip}
 use Rattle.std.proofs.lemmas.Grind.{flat_map-append}
 use Rattle.just_graph.proofs.Members.{contained, in_left, is_in}
 use Rattle.just_justfile.specs.declared.justfile.Justfile.{Justfile, out-Justfile}
-use Rattle.just_module_contents.specs.Recipes.{name_of, recipe_at}
+use Rattle.just_module_contents.specs.Recipes.{name_of_recipe, recipe_at}
 use Rattle.just_module_contents.specs.Resolved.{number_at}
 use Rattle.just_module_contents.specs.Standing.{AreStanding}
 use Rattle.just_ast_expressions.specs.declared.expression.Expression.{Expression}
@@ -54,12 +54,12 @@ module _ (S T : Text → Type 0) (on : (name : Text) → S name → T name) (bac
 
   module _ (recipes : List (Recipe UnresolvedDependency)) (path : Modulepath) where
     made_at : (i : ℕ) (made : Recipe Dependency) → IsMadeAt S M (completion by Needs) lists all recipes path i made → IsMadeAt T N (completion by Needs-2) lists (all ++ more) recipes path i made
-    made_at i made is = record { there = is.there; stands = on (name_of (recipe_at recipes i)) is.stands; made_of = made_of path (recipe_at recipes i) made is.made_of }
+    made_at i made is = record { there = is.there; stands = on (name_of_recipe (recipe_at recipes i)) is.stands; made_of = made_of path (recipe_at recipes i) made is.made_of }
 
     -- where the same recipes stand, what is linked stays so, with more recipes behind
     pub linked_same : (added : List (Recipe Dependency)) → AreLinked S M (completion by Needs) lists all recipes path added → AreLinked T N (completion by Needs-2) lists (all ++ more) recipes path added
     linked_same added linked = record {
-      each = λ i there stands. let x = linked.each i there (back (name_of (recipe_at recipes i)) stands) in (x.0, found_more all more (number_at recipes i) x.0 x.1, made_at i x.0 x.2);
+      each = λ i there stands. let x = linked.each i there (back (name_of_recipe (recipe_at recipes i)) stands) in (x.0, found_more all more (number_at recipes i) x.0 x.1, made_at i x.0 x.2);
       only = λ made c. let x = linked.only made c in (x.0, made_at x.0 made x.1);
       resolved = linked.resolved;
     }

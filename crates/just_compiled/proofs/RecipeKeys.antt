@@ -11,7 +11,7 @@ use Rattle.just_recipe.specs.declared.recipe.Recipe.{Recipe}
 use Rattle.just_justfile.specs.declared.justfile.RecipeKey.{RecipeKey}
 use Rattle.just_table.specs.Entries.{find, put, put_all}
 use Rattle.just_table.proofs.Puts.{find_put}
-use Rattle.just_module_contents.specs.Recipes.{name_of, no_recipe, recipe_at}
+use Rattle.just_module_contents.specs.Recipes.{name_of_recipe, no_recipe, recipe_at}
 use Rattle.just_compiled.specs.Analysis.{recipe_key_of, name_of_key, recipe_table}
 
 module _ {V : Type 0} (key : V → Text) where
@@ -57,7 +57,7 @@ keys_next rs n key old new more so is e =
     ∙ ap (put_all name_of_key []) (sym (map-append recipe_key_of (take n rs) (recipe_at rs n ∷ [])) ∙ ap (map recipe_key_of) (sym (take_more rs n no_recipe more)))
 
 -- a key that is found is that of a recipe of the name
-pub key_found : (rs : List (Recipe UnresolvedDependency)) (name : Text) (key : RecipeKey) → find name (recipe_table rs) ≡ Some key → (r : Recipe UnresolvedDependency) × In r rs × (key ≡ recipe_key_of r) × (name_of r ≡ name)
+pub key_found : (rs : List (Recipe UnresolvedDependency)) (name : Text) (key : RecipeKey) → find name (recipe_table rs) ≡ Some key → (r : Recipe UnresolvedDependency) × In r rs × (key ≡ recipe_key_of r) × (name_of_recipe r ≡ name)
 key_found rs name key e = elim (found_among name_of_key name key [] (map recipe_key_of rs) e) [
   | inl h ↦ (let r = from_map recipe_key_of key rs h.0 in (r.0, r.1, r.2, ap name_of_key (sym r.2) ∙ h.1))
   | inr none ↦ cc

@@ -8,7 +8,8 @@ use Rattle.just_compiled.specs.Analysis.{completion_in}
 use Rattle.just_compiled.specs.Justfiles.{Built, IsCompiled, Made, recipes_of_all, value_by}
 use Rattle.just_compiled.proofs.ScopesAlike.{IsNumberedOf, scopes_alike}
 use Rattle.just_compiled.proofs.ScopesRead.{numbers_alike, read_alike}
-use Rattle.just_justfile.specs.Running.{HasNeeds, IsReadBy, arguments_of, known_by_tables}
+use Rattle.just_justfile.specs.Running.{HasNeeds, IsReadBy, known_by_tables}
+use Rattle.just_recipe.specs.Recipes.{arguments_of}
 use Rattle.just_justfile.specs.declared.justfile.Justfile.{Justfile, out-Justfile}
 use Rattle.just_module_contents.specs.RecipeNames.{written_scopes}
 use Rattle.just_module_recipes.specs.Completing.{Completion}

@@ -23,7 +23,7 @@ use Rattle.just_parts.specs.Layers.{Given}
 use Rattle.just_parts.specs.Known.{known}
 use Rattle.just_parts.specs.Located.{located_assignment, located_item}
 use Rattle.just_parts.specs.Syntax.{SyntaxAnswers}
-use Rattle.just_compiled.specs.Justfiles.{contents_read, kept_by, recipes_in}
+use Rattle.just_compiled.specs.Justfiles.{contents_read, kept_by, recipes_in_files}
 
 -- The recipes of a module that are kept are alike those that its files keep, its absent modules and its aliases are those of its files, and names stand for the same.
 pub record Says (given : Given) (asts : AstKey → Option Ast) (m : Module) : Type 0 where
@@ -76,21 +76,21 @@ module _ (given : Given) (asts : AstKey → Option Ast) where
       let items : a.items ≡ map located_item (enabled_items enabled ast.items) = let same : a ≡ located_ast enabled ast = cc in ap (λ (x : Ast). x.items) same in
       recipes_counted enabled ast.items ∙ ap (λ is. outlines_of (recipes_said is)) (sym items)
 
-  recipes_all : (ks : List AstKey) (said : List Ast) → map Some said ≡ map R ks → AreAlike (recipes_in enabled asts ks) (recipes_said (items_of said))
+  recipes_all : (ks : List AstKey) (said : List Ast) → map Some said ≡ map R ks → AreAlike (recipes_in_files enabled asts ks) (recipes_said (items_of said))
   recipes_all [] [] e = refl
   recipes_all [] (a ∷ said) e = cc
   recipes_all (k ∷ ks) [] e = cc
   recipes_all (k ∷ ks) (a ∷ said) e =
       let head : Some a ≡ option_map (located_ast enabled) (asts k) = cc in
       let rest : map Some said ≡ map R ks = cc in
-      map-append outline_of (recipes_of enabled (items_in (asts k))) (recipes_in enabled asts ks)
+      map-append outline_of (recipes_of enabled (items_in (asts k))) (recipes_in_files enabled asts ks)
       ∙ (λ i. recipes_here (asts k) a head i ++ recipes_all ks said rest i)
       ∙ sym (ap outlines_of (said_append enabled a.items (items_of said)) ∙ map-append outline_of (recipes_said a.items) (recipes_said (items_of said)))
 
   -- a module that is read says what its files say
   pub module_says : (h : Heading) (m : Module) → IsModule R h m → Says given asts m
   module_says h m is = record {
-    kept = kept_alike_recipes (recipes_in enabled asts m.files) (contents_of m).recipes (recipes_all m.files m.asts is.asts);
+    kept = kept_alike_recipes (recipes_in_files enabled asts m.files) (contents_of m).recipes (recipes_all m.files m.asts is.asts);
     absent = said_as_is absent_by absent_located m.files m.asts is.asts;
     aliases = said_as_is alias_by alias_located m.files m.asts is.asts;
     known = λ answers i. known answers (variables_under (all_said variable_by located_assignment variable_located m.files m.asts is.asts i))

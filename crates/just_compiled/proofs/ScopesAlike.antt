@@ -33,7 +33,7 @@ use Rattle.just_recipe.specs.declared.dependency.DependencyArgument.{DependencyA
 use Rattle.just_recipe.specs.declared.dependency.UnresolvedDependency.{UnresolvedDependency}
 use Rattle.just_recipe.specs.declared.recipe.Recipe.{Recipe}
 use Rattle.just_recipe_names.specs.Numbered.{attribute_by, dependency_by, fragment_by, given_by, line_by, attribute_with, numbered_body, numbered_parameters, parameter_by, property_by, shell_lines_by, under_parameters}
-use Rattle.just_justfile.specs.Running.{arguments_of}
+use Rattle.just_recipe.specs.Recipes.{arguments_of}
 use Rattle.just_parts.specs.Bare.{bare_fragment, bare_line}
 use Rattle.just_recipe_values.specs.Valued.{informed, valued_attribute, valued_named}
 

@@ -21,11 +21,11 @@ use Rattle.just_justfile.specs.declared.resolution.Resolution.{Resolution}
 use Rattle.just_justfile.specs.declared.resolution.Resolution.TheVariants as resolution
 use Rattle.just_justfile.proofs.Leading.{named_there}
 use Rattle.just_module_contents.specs.declared.labels.Label.{Label}
-use Rattle.just_module_contents.specs.Recipes.{name_of, recipe_at}
+use Rattle.just_module_contents.specs.Recipes.{name_of_recipe, recipe_at}
 use Rattle.just_module_contents.specs.Resolved.{number_at}
 use Rattle.just_module_contents.proofs.StandingOnes.{standing_in}
 use Rattle.just_module_recipes.specs.Linked.{AreDisabled, AreSettled, disabled_table, falls as fallen, name_of_disabled, none as none_disabled, stands as not_disabled}
-use Rattle.just_module_recipes.specs.Links.{Stands, around}
+use Rattle.just_module_recipes.specs.Links.{Stands, around_recipes}
 use Rattle.just_module_recipes.specs.loops.Links.{around_of}
 use Rattle.just_names.specs.Name.{text_of_name}
 use Rattle.just_names.specs.Texts.{Text}
@@ -140,8 +140,8 @@ module _ (held : List (Recipe Dependency)) where
       go None g = of (find name (out-Justfile j).disabled_recipes) refl g
       go (Some key) g = cc
 
-  -- so is what is around the recipes of a module in which such modules stand
-  pub around_settled : (absent : List (Text × Text)) (modules : List Justfile) → ((inner : Justfile) → Contains modules inner → IsSettled held inner) → AreSettled (around absent modules held)
+  -- so is what is around_recipes the recipes of a module in which such modules stand
+  pub around_settled : (absent : List (Text × Text)) (modules : List Justfile) → ((inner : Justfile) → Contains modules inner → IsSettled held inner) → AreSettled (around_recipes absent modules held)
   around_settled absent modules all = record { held = λ path n e. numbers path n (end_of_names absent modules (map text_of_name path.front)) refl e; disabled = λ path set e. sets path set (end_of_names absent modules (map text_of_name path.front)) refl e }
     where
       numbers : (path : Namepath) (n : Number) (end : End) → end_of_names absent modules (map text_of_name path.front) ≡ end → recipe_by end [] [] (text_of_name path.last) ≡ Some (resolution.Resolved n) → IsSome (find_number held n.0)
@@ -185,7 +185,7 @@ module_settled value answers recipes standing before added path j links are rise
         let k = key_found standing name key (subst (λ (t : List (Text × RecipeKey)). find name t ≡ Some key) are e) in
         let s = standing_in links.stand k.0 k.1 in
         let i = place_in recipes k.0 s.0 in
-        let made = links.linked.each i.0 i.1 (subst (λ (r : Recipe UnresolvedDependency). Stands recipes (around_of j before) (name_of r)) (sym i.2) s.1) in
+        let made = links.linked.each i.0 i.1 (subst (λ (r : Recipe UnresolvedDependency). Stands recipes (around_of j before) (name_of_recipe r)) (sym i.2) s.1) in
         let number : number_at recipes i.0 ≡ key.number.0 = i.3 ∙ ap (λ (x : RecipeKey). x.number.0) (sym k.2) in
         subst (λ n. IsSome (find_number (before ++ added) n)) number (some_number (find_number (before ++ added) (number_at recipes i.0)) made.0 made.1)
 

@@ -32,7 +32,7 @@ use Rattle.just_module_contents.specs.Contents.{Contents}
 use Rattle.just_module_contents.specs.Kept.{kept_recipes}
 use Rattle.just_module_contents.specs.Named.{alias_by, function_by, lists_by, name_by, naming_by, set_by, unexported_by, variable_by}
 use Rattle.just_module_contents.specs.Said.{said_in}
-use Rattle.just_module_contents.specs.Recipes.{name_of, recipe_at, recipes_of}
+use Rattle.just_module_contents.specs.Recipes.{name_of_recipe, recipe_at, recipes_of}
 use Rattle.just_module_headers.specs.Reading.{Submodule, items_in}
 use Rattle.just_module_contents.specs.Standing.{AreStanding}
 use Rattle.just_justfile.specs.Module.{module_name}
@@ -43,13 +43,13 @@ use Rattle.just_names.specs.Name.{text_of_name, texts_of_path}
 use Rattle.just_names.specs.declared.name.Namepath.{Namepath}
 
 -- the recipes that files say, file after file
-abbrev pub recipes_in : (Item → Bool) → (AstKey → Option Ast) → List AstKey → List (Recipe UnresolvedDependency)
-recipes_in enabled asts files = flat_map (λ k. recipes_of enabled (items_in (asts k))) files
+abbrev pub recipes_in_files : (Item → Bool) → (AstKey → Option Ast) → List AstKey → List (Recipe UnresolvedDependency)
+recipes_in_files enabled asts files = flat_map (λ k. recipes_of enabled (items_in (asts k))) files
 
 -- what the rules read of files
 abbrev pub contents_read : (Item → Bool) → (AstKey → Option Ast) → List AstKey → Contents
 contents_read enabled asts files = record {
-  recipes = recipes_in enabled asts files;
+  recipes = recipes_in_files enabled asts files;
   functions = flat_map (λ k. said_in function_by enabled (asts k)) files;
   variables = flat_map (λ k. said_in variable_by enabled (asts k)) files;
   aliases = flat_map (λ k. said_in alias_by enabled (asts k)) files;
@@ -84,7 +84,7 @@ overridden_of_all = flat_map (λ (b : Built). b.1.overridden)
 
 -- the recipes of a module that are kept, as its files say them
 abbrev pub kept_by : Given → (AstKey → Option Ast) → Module → List (Recipe UnresolvedDependency)
-kept_by given asts m = kept_recipes (recipes_in given.syntax.enabled asts m.files)
+kept_by given asts m = kept_recipes (recipes_in_files given.syntax.enabled asts m.files)
 
 -- the value of an expression among the constants of a module, as its files say it
 abbrev pub value_by : Given → (AstKey → Option Ast) → Module → Evaluated → Expression → Option (List Text)
@@ -97,7 +97,7 @@ pub record HasNumberIn (given : Given) (asts : AstKey → Option Ast) (m : Modul
   pub leads_in : leads m inside path ≡ InModule to below
   pub place : ℕ
   pub there : place < length (kept_by given asts to)
-  pub named : name_of (recipe_at (kept_by given asts to) place) ≡ text_of_name path.last
+  pub named : name_of_recipe (recipe_at (kept_by given asts to) place) ≡ text_of_name path.last
   pub number_is : (recipe_at (kept_by given asts to) place).number ≡ number
 
 -- What a path means from a module as the target of an alias: the module to which it leads; what is disabled where it leads to or through one without a file; or where it leads to no module the kept recipe to which it leads, by its number where that stands, and else with exactly the paths that disable it.

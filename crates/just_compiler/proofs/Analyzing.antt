@@ -17,7 +17,7 @@ use Rattle.just_names.specs.Texts.{Text}
 use Rattle.just_names.specs.Name.{text_if_named, text_of_name}
 use Rattle.just_parts.specs.Items.{Ast}
 use Rattle.just_paths.specs.declared.modulepath.Modulepath.{Modulepath}
-use Rattle.just_recipe.specs.Recipes.{IsOrdered, IsResolved}
+use Rattle.just_recipe.specs.Recipes.{DependenciesStandFirst, IsResolved}
 use Rattle.just_justfile.specs.Closed.{IsPlaced, StandsIn}
 use Rattle.just_justfile.specs.declared.justfile.Justfile.{Justfile, out-Justfile, out-roll-Justfile}
 use Rattle.just_module_headers.specs.Analyzable.{AreAnalyzable}
@@ -285,7 +285,7 @@ module _ (given : Given) (entries : List (AstKey × Ast)) (d : AstKey) (files : 
             let out = out-roll-Justfile (record (out-Justfile (so.justfile root)) { name = top.label.name; doc = top.label.doc; groups = top.label.groups; private = top.label.private }) in
             ap (λ x. let label : Label = record { name = x.name; doc = x.doc; doc_expression = None; groups = x.groups; private = x.private } in label) out ∙ (λ i. record top.label { doc_expression = sym undocumented i })
 
-        pub is_analyzed : top.label.doc_expression ≡ None → IsOrdered added.recipes → IsAnalyzed given (λ k. lookup (same_ast_key k) entries) loaded top (labelled_as top.label (so.justfile root)) added.recipes added.overridden
+        pub is_analyzed : top.label.doc_expression ≡ None → DependenciesStandFirst added.recipes → IsAnalyzed given (λ k. lookup (same_ast_key k) entries) loaded top (labelled_as top.label (so.justfile root)) added.recipes added.overridden
         is_analyzed undocumented ordered = record {
           m = m0;
           inside = inside0;

@@ -25,7 +25,7 @@ use Rattle.just_module_headers.specs.Joined.{IsJoined}
 use Rattle.just_module_variables.specs.Documented.{AreDocumented, HasDoc}
 use Rattle.just_compiled.specs.Evaluated.{AreLabels, IsEvaluatedTo, overridden_in}
 use Rattle.just_compiled.specs.Labelled.{label_in, labelled_as, with_labels, by_name, notes_in, slot}
-use Rattle.just_compiled.specs.Justfiles.{AreAliased, AreCompiled, Built, IsCompiled, MeansIn, Made, contents_read, none, notes_said, one, recipes_in, kept_by, recipes_of_all, value_by}
+use Rattle.just_compiled.specs.Justfiles.{AreAliased, AreCompiled, Built, IsCompiled, MeansIn, Made, contents_read, none, notes_said, one, recipes_in_files, kept_by, recipes_of_all, value_by}
 use Rattle.just_module_tree.specs.Modules.{Empty, Forest, Heading, Module, Tree, headings_in, AreModules, IsHeading, a_module, after_it, contents_of, first, in_it, no_module, path_of}
 use Rattle.just_module_contents.specs.Constants.{Evaluated, IsEvaluated, value_among}
 use Rattle.just_module_contents.specs.Contents.{Contents}
@@ -52,7 +52,7 @@ use Rattle.just_ast_expressions.specs.declared.expression.Expression.{Expression
 use Rattle.just_names.specs.Index.{AreDifferent}
 use Rattle.just_module_recipes.specs.Linked.{AreLinked, AreSettled, HasDisabled, HasNumber}
 use Rattle.just_module_contents.specs.Standing.{AreStanding}
-use Rattle.just_module_recipes.specs.Links.{Around, Disables, Stands, around}
+use Rattle.just_module_recipes.specs.Links.{Around, Disables, Stands, around_recipes}
 use Rattle.just_module_recipes.specs.loops.Links.{around_of, links_by}
 use Rattle.just_errors.specs.Causes.{Cause, Keeps}
 use Rattle.just_recipe.specs.declared.dependency.Dependency.{Dependency}
@@ -133,9 +133,9 @@ module _ (cs : Contents) (standing : List (Recipe UnresolvedDependency)) (ast : 
   labelled_links value answers recipes before added path links =
       let out = sym (out-roll-Justfile (record (out-Justfile j) { name = label.name; doc = label.doc; groups = label.groups; private = label.private })) in
       record {
-        linked = subst (λ x. AreLinked (Stands recipes (around x.absent_modules x.modules before)) (HasNumber recipes (around x.absent_modules x.modules before)) (completion_in value answers x.assignments x.functions (has_number x.overridden) x.settings) x.settings.lists (before ++ added) recipes path added) out links.linked;
-        stand = subst (λ x. AreStanding (Stands recipes (around x.absent_modules x.modules before)) recipes standing) out links.stand;
-        disabled = subst (λ x. HasDisabled (Disables recipes (around x.absent_modules x.modules before)) recipes x.disabled_recipes) out links.disabled;
+        linked = subst (λ x. AreLinked (Stands recipes (around_recipes x.absent_modules x.modules before)) (HasNumber recipes (around_recipes x.absent_modules x.modules before)) (completion_in value answers x.assignments x.functions (has_number x.overridden) x.settings) x.settings.lists (before ++ added) recipes path added) out links.linked;
+        stand = subst (λ x. AreStanding (Stands recipes (around_recipes x.absent_modules x.modules before)) recipes standing) out links.stand;
+        disabled = subst (λ x. HasDisabled (Disables recipes (around_recipes x.absent_modules x.modules before)) recipes x.disabled_recipes) out links.disabled;
       }
 
 module _ (given : Given) (entries : List (AstKey × Ast)) (d : AstKey) (files : Files) (placed : ArePlaced entries files) (rows : Rows) (are : AreRows given.syntax.enabled files rows)
@@ -197,7 +197,7 @@ module _ (given : Given) (entries : List (AstKey × Ast)) (d : AstKey) (files : 
     pub path_same : at.own.module_path ≡ h.key.0
     path_same = paths h.key at.own own_same
 
-    rs_same : recipes_of_place given.syntax.enabled files joined p ≡ recipes_in given.syntax.enabled asts m.files
+    rs_same : recipes_of_place given.syntax.enabled files joined p ≡ recipes_in_files given.syntax.enabled asts m.files
     rs_same = recipes_same given entries d files placed rows are paths joined order below joins lists_first loaded many differ (targets joined.files.items p) (file_inside given.syntax.enabled entries d files placed rows are paths joined p (below k l) (joins k l))
 
     cs_same : contents_of_place given.syntax.enabled files joined p ≡ contents_read given.syntax.enabled asts m.files
@@ -314,7 +314,7 @@ module _ (given : Given) (entries : List (AstKey × Ast)) (d : AstKey) (files : 
       over = around_of (justfile p) before
 
       over_is : around_of (j h.label) before ≡ over
-      over_is = λ i. around (out h.label i).absent_modules (out h.label i).modules before
+      over_is = λ i. around_recipes (out h.label i).absent_modules (out h.label i).modules before
 
       meets_over : Meets given asts loaded built m inside over
       meets_over = subst (λ (x : Around). Meets given asts loaded built m inside x) over_is (meets h.label)

@@ -1,6 +1,6 @@
 -- What a module that is analyzed is linked to, by what its justfile has.
 use Rattle.std.proofs.Common.{◌≡◌, Bool, List, ◌++◌, Option, sym, ap, subst}
-use Rattle.just_compiler.specs.loops.Parts.{IsAnalyzedFrom, around_by, completion_here, value_of}
+use Rattle.just_compiler.specs.loops.Parts.{IsAnalyzedFrom, around_by, completion_here, checked_value}
 use Rattle.just_module_checks.specs.declared.checks.Checked.{Checked}
 use Rattle.just_module_assembly.specs.declared.justfiles.Surroundings.{Surroundings}
 use Rattle.just_names.specs.Texts.{Text}
@@ -20,7 +20,7 @@ use Rattle.just_module_contents.specs.declared.notes.Notes.{Notes}
 use Rattle.just_module_recipes.specs.loops.Broken.{BreaksRecipes}
 use Rattle.just_module_recipes.specs.Completing.{Completion}
 use Rattle.just_module_recipes.specs.Linked.{AreLinked, HasDisabled, HasNumber}
-use Rattle.just_module_recipes.specs.Links.{Around, Disables, Stands, around}
+use Rattle.just_module_recipes.specs.Links.{Around, Disables, Stands, around_recipes}
 use Rattle.just_module_recipes.specs.loops.Links.{around_of, links_by}
 use Rattle.just_parts.specs.Items.{Ast}
 use Rattle.just_module_variables.specs.Constants.{evaluated_in}
@@ -35,10 +35,10 @@ module _ (layers : Layers) (own : Ast) (it : Checked) (about : Surroundings) (be
   rs = kept_recipes (recipes_in it.definitions)
 
   around_is : around_by about before.recipes ≡ around_of j before.recipes
-  around_is = λ i. around (ap (λ (n : Notes). n.absent_modules) (sym is.notes) i) (sym is.modules i) before.recipes
+  around_is = λ i. around_recipes (ap (λ (n : Notes). n.absent_modules) (sym is.notes) i) (sym is.modules i) before.recipes
 
   abbrev value : Expression → Option (List Text)
-  value = value_of layers.evaluator it
+  value = checked_value layers.evaluator it
 
   completed_same : completion_here layers.syntax layers.evaluator it ≡ completion_of value layers.syntax j
   completed_same = λ i. completion_in value layers.syntax (sym is.assignments i) (sym is.functions i) (has_number (sym is.own_overrides i)) (sym is.settings i)

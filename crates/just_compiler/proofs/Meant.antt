@@ -41,7 +41,7 @@ use Rattle.just_name_resolution.proofs.Sets.{number_itself, one_number}
 use Rattle.just_names.specs.Texts.{Text}
 use Rattle.just_names.specs.declared.number.Number.{Number}
 use Rattle.just_overrides.proofs.Ruling.{at_root}
-use Rattle.just_overrides.specs.Reached.{aliased, given_for, overrides_meant, number_in, reached, reached_from, variable_of}
+use Rattle.just_overrides.specs.Reached.{aliased, given_for, overrides_meant, number_in_module, reached, reached_from, variable_of}
 use Rattle.just_parts.specs.Asts.{AstKey}
 use Rattle.just_parts.specs.Evaluator.{Evaluator}
 use Rattle.just_parts.specs.Items.{Ast}
@@ -184,10 +184,10 @@ module _ (evaluator : Evaluator) (overrides : Overrides) (w : World) (asts : Ast
       at_root (given_in evaluator overrides w) asts loaded analyzed.built (root_heading w) refl analyzed.m analyzed.inside analyzed.are_modules analyzed.kept recipes justfile analyzed.compiled analyzed.closed
 
   -- a key of a module that stands in the root means its variable
-  key_means : (j : Justfile) (path : Modulepath) (name : Text) (number : Number) → StandsIn justfile j → (out-Justfile j).module_path ≡ path → number_in name j ≡ Some number → variable_of justfile (path, name) ≡ Some number
+  key_means : (j : Justfile) (path : Modulepath) (name : Text) (number : Number) → StandsIn justfile j → (out-Justfile j).module_path ≡ path → number_in_module name j ≡ Some number → variable_of justfile (path, name) ≡ Some number
   key_means j path name number stands is has =
       let along = ap (λ (p : Modulepath). inner_along justfile p.components) (sym is) ∙ found_by_path recipes justfile j analyzed.closed rooted stands in
-      ap (option_and_then (number_in name)) (walks_on justfile path.components justfile j along) ∙ has
+      ap (option_and_then (number_in_module name)) (walks_on justfile path.components justfile j along) ∙ has
 
   -- what a key means is among what is meant
   is_among : (key : OverrideKey) (value : Text) (number : Number) → In (key, value) overrides.entries → variable_of justfile key ≡ Some number → In (number, value) (overrides_meant justfile overrides.entries)
@@ -202,7 +202,7 @@ module _ (evaluator : Evaluator) (overrides : Overrides) (w : World) (asts : Ast
       let contents : Contents = contents_read given.syntax.enabled asts m.files in
       let number = numbered_assignment (known_with_numbers given.syntax contents) in
       let x = overrides_one (override_at overrides (path_of m)) contents.variables entry (subst (In entry) is.evaluated.overrides_are there) in
-      let has : number_in x.name j ≡ Some x.variable.number = ap (λ es. option_map (λ (a : Assignment). a.number) (find x.name es)) is.variables.assignments_are
+      let has : number_in_module x.name j ≡ Some x.variable.number = ap (λ es. option_map (λ (a : Assignment). a.number) (find x.name es)) is.variables.assignments_are
       ∙ (ap (option_map (λ (a : Assignment). a.number)) (find_changed number x.name (variables_under contents.variables)) ∙ ap (λ o. option_map (λ (a : Assignment). a.number) (option_map number o)) x.is) in
       let means = key_means j (path_of m) x.name x.variable.number stands is.path has in
       has_last (overrides_meant justfile overrides.entries) (x.variable.number, x.value) n (is_among (path_of m, x.name) x.value x.variable.number (has_key overrides (path_of m) x.name x.value x.given) means) (x.number ∙ same)

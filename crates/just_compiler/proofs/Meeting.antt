@@ -15,7 +15,7 @@ use Rattle.just_justfile.specs.declared.justfile.Justfile.{Justfile, out-Justfil
 use Rattle.just_module_headers.specs.Files.{ArePlaced, AreRows, asts_in}
 use Rattle.just_module_headers.specs.Joined.{IsJoined}
 use Rattle.just_compiled.specs.Labelled.{with_labels, by_name, slot}
-use Rattle.just_compiled.specs.Justfiles.{AreCompiled, Built, contents_read, notes_said, recipes_in, recipes_of_all}
+use Rattle.just_compiled.specs.Justfiles.{AreCompiled, Built, contents_read, notes_said, recipes_in_files, recipes_of_all}
 use Rattle.just_module_assembly.specs.Noted.{notes_from}
 use Rattle.just_module_assembly.specs.loops.Noted.{notes_of_place}
 use Rattle.just_module_tree.specs.Modules.{Forest, Heading, Module, headings_in, AreModules, IsHeading, IsModule, a_module, contents_of, heading_of, no_module}
@@ -39,7 +39,7 @@ use Rattle.just_module_tree.proofs.Ready.{labels_are}
 use Rattle.just_parts.specs.Layers.{Given, Layers, layers_at}
 use Rattle.just_module_contents.specs.Labels.{doc_by}
 use Rattle.just_names.specs.Index.{AreDifferent}
-use Rattle.just_module_recipes.specs.Links.{Around, around}
+use Rattle.just_module_recipes.specs.Links.{Around, around_recipes}
 use Rattle.just_module_recipes.specs.loops.Links.{links_by, told_by}
 use Rattle.just_module_contents.specs.Groups.{BreaksContents, Group}
 use Rattle.just_errors.specs.Causes.{Cause}
@@ -118,7 +118,7 @@ module _ (given : Given) (entries : List (AstKey × Ast)) (d : AstKey) (files : 
   recipes_here None = refl
   recipes_here (Some ast) = refl
 
-  pub recipes_same : (xs : List ℕ) → ((q : ℕ) → In q xs → q < n) → recipes_from given.syntax.enabled (asts_in files) xs ≡ recipes_in given.syntax.enabled asts (map key_at xs)
+  pub recipes_same : (xs : List ℕ) → ((q : ℕ) → In q xs → q < n) → recipes_from given.syntax.enabled (asts_in files) xs ≡ recipes_in_files given.syntax.enabled asts (map key_at xs)
   recipes_same xs inside = by_keys (recipes_by given.syntax.enabled) xs inside ∙ (λ i. flat_map (λ k. recipes_here (asts k) i) (map key_at xs))
 
   said_at : {A : Type 0} (by : Item → List A) (xs : List ℕ) → ((q : ℕ) → In q xs → q < n) → said_from by given.syntax.enabled (asts_in files) xs ≡ flat_map (λ k. said_in by given.syntax.enabled (asts k)) (map key_at xs)
@@ -192,7 +192,7 @@ module _ (given : Given) (entries : List (AstKey × Ast)) (d : AstKey) (files : 
           (settled : (labels : List Label) (x : Justfile) → Contains (by_name (with_labels js labels)) x → IsSettled held x) where
         pub names_over : (slots : List (Option Justfile)) → map Some js ≡ map (slot slots) (targets joined.modules.items p) → (c : Cause) → BreaksOver given files joined p slots held c → BreaksModules told_in given R root c
         names_over slots there c broken =
-            let it = around (notes_of_place given.syntax.enabled files joined p).absent_modules (by_name (with_labels js broken.labels)) held in
+            let it = around_recipes (notes_of_place given.syntax.enabled files joined p).absent_modules (by_name (with_labels js broken.labels)) held in
             let ms = contents_of_place given.syntax.enabled files joined p in
             let meets = meets_at broken.labels broken.named it [] (all ∙ sym (append-nil held)) refl refl in
             let cs : ms ≡ contents_read given.syntax.enabled asts m.files = contents_same (targets joined.files.items p) files_here in

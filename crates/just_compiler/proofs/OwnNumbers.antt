@@ -10,7 +10,7 @@ use Rattle.just_graph.proofs.Members.{In, contained, from_map, in_cases, in_map,
 use Rattle.just_module_contents.specs.Constants.{Evaluated}
 use Rattle.just_module_contents.specs.Contents.{Contents}
 use Rattle.just_module_contents.specs.Defaults.{BreaksDefaults, IsDefaultAmong, IsDefaultBy, IsDefaultOf}
-use Rattle.just_module_contents.specs.Recipes.{name_of, no_recipe, recipe_at}
+use Rattle.just_module_contents.specs.Recipes.{name_of_recipe, no_recipe, recipe_at}
 use Rattle.just_module_contents.specs.Resolved.{AreNew, number_at, unresolved_numbers}
 use Rattle.just_module_contents.specs.Kept.{kept_recipes}
 use Rattle.just_module_contents.specs.Rules.{BreaksAliasTargets, BreaksBodies}
@@ -42,9 +42,9 @@ one_standing a b = go a b refl
         let head : r ≡ q = cc in
         let rest : rs ≡ qs = cc in
         λ i. head i ∷ go all more rest i
-    go {P} (stands {r} is all) (falls {r = q} isnt more) e = let head : r ≡ q = cc in absurd (isnt (subst (λ (x : Recipe UnresolvedDependency). P (name_of x)) head is))
+    go {P} (stands {r} is all) (falls {r = q} isnt more) e = let head : r ≡ q = cc in absurd (isnt (subst (λ (x : Recipe UnresolvedDependency). P (name_of_recipe x)) head is))
     go (falls is all) none e = cc
-    go {P} (falls {r} isnt all) (stands {r = q} is more) e = let head : r ≡ q = cc in absurd (isnt (subst (λ (x : Recipe UnresolvedDependency). P (name_of x)) (sym head) is))
+    go {P} (falls {r} isnt all) (stands {r = q} is more) e = let head : r ≡ q = cc in absurd (isnt (subst (λ (x : Recipe UnresolvedDependency). P (name_of_recipe x)) (sym head) is))
     go (falls {rs} isnt all) (falls {rs = qs} other more) e = let rest : rs ≡ qs = cc in go all more rest
 
 -- what is kept of aliases and defaults
@@ -83,7 +83,7 @@ found_number (x ∷ rs) n r e = found_or rs n r x (found_number rs n r) (x.numbe
 -- the own recipes are resolved where they stand
 module _ (completed : Completion) (named : (r : Recipe UnresolvedDependency) → (completed.by r).number ≡ r.number) (lists : Bool) (recipes standing : List (Recipe UnresolvedDependency)) (it : Around) (path : Modulepath) (all : List (Recipe Dependency)) (own : List (Recipe UnresolvedDependency)) (default : Option Number)
     (stand : AreStanding (Stands recipes it) recipes standing) (linked : AddsLinked completed lists recipes it path all) (apart : AreNew it.held own) where
-  standing_of : (n : ℕ) → (i : ℕ) → i < length recipes → Stands recipes it (name_of (recipe_at recipes i)) → n ≡ (recipe_at recipes i).number.0 → In n (unresolved_numbers standing)
+  standing_of : (n : ℕ) → (i : ℕ) → i < length recipes → Stands recipes it (name_of_recipe (recipe_at recipes i)) → n ≡ (recipe_at recipes i).number.0 → In n (unresolved_numbers standing)
   standing_of n i h is e = subst (λ x. In x (unresolved_numbers standing)) (sym e) (in_map (λ (x : Recipe UnresolvedDependency). x.number.0) (recipe_at recipes i) standing (stays stand (recipe_at recipes i) (is_in (recipe_at recipes i) recipes (Contains-get_or recipes i no_recipe h)) is))
 
   into : (k : ℕ) → k < length own → Contains (numbers all) (number_at own k) → Contains (unresolved_numbers standing) (number_at own k)
@@ -103,7 +103,7 @@ module _ (completed : Completion) (named : (r : Recipe UnresolvedDependency) →
       let r = from_map (λ (x : Recipe UnresolvedDependency). x.number.0) n standing (is_in n (unresolved_numbers standing) c) in
       let s = standing_in stand r.0 r.1 in
       let i = place_in recipes r.0 s.0 in
-      let made = linked.linked.each i.0 i.1 (subst (λ (x : Recipe UnresolvedDependency). Stands recipes it (name_of x)) (sym i.2) s.1) in
+      let made = linked.linked.each i.0 i.1 (subst (λ (x : Recipe UnresolvedDependency). Stands recipes it (name_of_recipe x)) (sym i.2) s.1) in
       contained n (numbers all) (subst (λ x. In x (numbers all)) (i.3 ∙ sym r.2) (found_number all (number_at recipes i.0) made.0 made.1))
 
   -- the default of those that are resolved is one among those that stand

@@ -22,7 +22,7 @@ use Rattle.just_execution.specs.Firsts.{has}
 use Rattle.just_execution.specs.TaskInteractions.{ask_steps, begin_steps, body_of, execute_at, follow_steps, interactions_of, run_in}
 use Rattle.just_tasks.specs.declared.task.Task.{Task}
 use Rattle.just_tasks.specs.Pairs.{OnceTable, same_pair, prior_dependencies, subsequent_dependencies, AllBelow}
-use Rattle.just_recipe.specs.Recipes.{IsOrdered}
+use Rattle.just_recipe.specs.Recipes.{DependenciesStandFirst}
 use Rattle.just_tasks.specs.Scene.{ModuleContents, Scene}
 use Rattle.just_execution.specs.Walking.{TaskInteractions, Prepared, State, counted, all_steps, opened, fresh_steps, block_steps, ran, ran_steps, visit_steps, walk_steps}
 use Rattle.just_execution.proofs.Joined.{with_priors, asks, join, still-new, add-zero, none-in, none-below}
@@ -67,7 +67,7 @@ tells-of recipes tops old new (Err Exhausted) u a = a.full refl
 tells-of recipes tops old new (Err Memory) u a = tt
 tells-of recipes tops old new (Err (Failed e)) u a = tt
 
-module _ (recipes : List (Recipe Dependency)) (of_task : TaskInteractions) (p : Question → Option Answer) (ordered : IsOrdered recipes) (leaf : AreAccounted recipes of_task p) where
+module _ (recipes : List (Recipe Dependency)) (of_task : TaskInteractions) (p : Question → Option Answer) (ordered : DependenciesStandFirst recipes) (leaf : AreAccounted recipes of_task p) where
   -- what is proved of a walk of tasks below n
   abbrev WalkAt : ℕ → Type 0
   WalkAt n = (tops : List Task) (before : List AskedTask) (done : List Pair) (s : State) (t : Task) (old new : Log) (r : Result State Halt) →
@@ -306,7 +306,7 @@ leaves-accounted scene p = record {
 }
 
 -- The account of a run of a scene, for every host.
-pub fresh-account : (scene : Scene) → IsOrdered scene.recipes → (p : Question → Option Answer) (tops : List Task) →
+pub fresh-account : (scene : Scene) → DependenciesStandFirst scene.recipes → (p : Question → Option Answer) (tops : List Task) →
     AllBelow (length scene.recipes) tops → (old new : Log) (r : Result (List ℕ) Halt) →
     HasTrace p (fresh_steps (walk_steps (interactions_of scene) (length scene.recipes)) tops []) old new r → (t : OnceTables) × HasAccount scene.recipes old new tops t × SaysOfTables scene.recipes tops t r
 fresh-account scene ordered p tops below old new r took = account-of scene.recipes (interactions_of scene) p ordered (leaves-accounted scene p) (length scene.recipes) tops below old new r took

@@ -22,7 +22,7 @@ use Rattle.just_run_layers.specs.Host.{Answer, Answers, Done, TextGiven, Valued,
 use Rattle.just_run_layers.specs.Interactions.{Return, and_then, CanReturn, log_of}
 use Rattle.just_run_layers.proofs.InteractionLemmas.{took-asked}
 use Rattle.just_execution.specs.Account.{AreNamed, StandFor}
-use Rattle.just_execution.specs.Arguments.{argument_steps, dependencies_steps, dependency_steps, group_steps, groups_steps, spread, task_at, tasks_with, texts_given, texts_steps, value_steps, valued_answered, with_text}
+use Rattle.just_execution.specs.Arguments.{argument_steps, dependencies_steps, dependency_steps, argument_group_steps, argument_groups_steps, spread, task_at, tasks_with, texts_given, argument_texts_steps, value_steps, valued_answered, with_text}
 use Rattle.just_execution.specs.TaskInteractions.{after_steps, ask_in, ask_steps, bound_answered, consent_by, consent_steps, follow_in, follow_steps, held_steps, parameters_steps, prepare_steps, prior_steps, surrounded}
 use Rattle.just_run_layers.specs.loops.Interactions.{AsksAlone}
 use Rattle.just_tasks.specs.Pairs.{prior_dependencies, subsequent_dependencies}
@@ -63,11 +63,11 @@ module _ (recipes : List (Recipe Dependency)) (s : Surroundings) where
   argument-quiet : (a : DependencyArgument) → Quiet (argument_steps s a)
   argument-quiet a = (refl, λ answer. quiet-then (valued_answered answer) (λ value. Return (texts_given s.context.settings.lists value)) (valued-quiet answer) (λ value. tt))
 
-  group-quiet : (arguments : List DependencyArgument) → Quiet (group_steps s arguments)
-  group-quiet arguments = quiet-then (texts_steps s arguments) (λ texts. Return (texts ∷ [])) (quiet-gathered (argument_steps s) argument-quiet arguments) (λ texts. tt)
+  group-quiet : (arguments : List DependencyArgument) → Quiet (argument_group_steps s arguments)
+  group-quiet arguments = quiet-then (argument_texts_steps s arguments) (λ texts. Return (texts ∷ [])) (quiet-gathered (argument_steps s) argument-quiet arguments) (λ texts. tt)
 
   dependency-quiet : (d : Dependency) → Quiet (dependency_steps recipes s d)
-  dependency-quiet d = quiet-then (groups_steps s d.arguments) (λ groups. Return (tasks_with recipes d groups)) (quiet-gathered (group_steps s) group-quiet d.arguments) (λ groups. tt)
+  dependency-quiet d = quiet-then (argument_groups_steps s d.arguments) (λ groups. Return (tasks_with recipes d groups)) (quiet-gathered (argument_group_steps s) group-quiet d.arguments) (λ groups. tt)
 
   dependencies-quiet : (ds : List Dependency) → Quiet (dependencies_steps recipes s ds)
   dependencies-quiet ds = quiet-gathered (dependency_steps recipes s) dependency-quiet ds
@@ -116,7 +116,7 @@ stands-for recipes d groups =
 
 dependency-stands : (recipes : List (Recipe Dependency)) (s : Surroundings) (d : Dependency) (ts : List Task) → CanReturn (dependency_steps recipes s d) ts → StandFor recipes d ts
 dependency-stands recipes s d ts g =
-    let r = gives-split (groups_steps s d.arguments) (λ groups. Return (tasks_with recipes d groups)) ts g in
+    let r = gives-split (argument_groups_steps s d.arguments) (λ groups. Return (tasks_with recipes d groups)) ts g in
     subst (StandFor recipes d) r.2 (stands-for recipes d r.0)
 
 pub dependencies-named : (recipes : List (Recipe Dependency)) (s : Surroundings) (ds : List Dependency) (ts : List Task) → CanReturn (dependencies_steps recipes s ds) ts → AreNamed recipes ds ts
@@ -172,18 +172,18 @@ named-all recipes P (d ∷ ds) ts n h =
 
 -- questions for a group and for a dependency, as they were taken
 module _ (s : Surroundings) (group given : List DependencyArgument) (is : given ≡ group) (e : Inquiry → Option Answer) (before later : List ScopeRequest) where
-  pub group-given : (texts : List Text) → AsksAlone e (texts_steps s given) before later (Ok texts) → AsksAlone e (group_steps s group) before later (Ok (texts ∷ []))
-  group-given texts took = subst (λ (g : List DependencyArgument). AsksAlone e (group_steps s g) before later (Ok (texts ∷ []))) is (alone-map e (texts_steps s given) (λ texts. texts ∷ []) before later texts took)
+  pub group-given : (texts : List Text) → AsksAlone e (argument_texts_steps s given) before later (Ok texts) → AsksAlone e (argument_group_steps s group) before later (Ok (texts ∷ []))
+  group-given texts took = subst (λ (g : List DependencyArgument). AsksAlone e (argument_group_steps s g) before later (Ok (texts ∷ []))) is (alone-map e (argument_texts_steps s given) (λ texts. texts ∷ []) before later texts took)
 
-  pub group-failed : (f : Halt) → AsksAlone e (texts_steps s given) before later (Err f) → AsksAlone e (group_steps s group) before later (Err f)
-  group-failed f took = subst (λ (g : List DependencyArgument). AsksAlone e (group_steps s g) before later (Err f)) is (alone-stop e (texts_steps s given) (λ texts. Return (texts ∷ [])) before later f took)
+  pub group-failed : (f : Halt) → AsksAlone e (argument_texts_steps s given) before later (Err f) → AsksAlone e (argument_group_steps s group) before later (Err f)
+  group-failed f took = subst (λ (g : List DependencyArgument). AsksAlone e (argument_group_steps s g) before later (Err f)) is (alone-stop e (argument_texts_steps s given) (λ texts. Return (texts ∷ [])) before later f took)
 
 module _ (recipes : List (Recipe Dependency)) (s : Surroundings) (d : Dependency) (given : List (List DependencyArgument)) (is : given ≡ d.arguments) (e : Inquiry → Option Answer) (before later : List ScopeRequest) where
-  pub dependency-given : (groups : List (List Text)) → AsksAlone e (groups_steps s given) before later (Ok groups) → AsksAlone e (dependency_steps recipes s d) before later (Ok (tasks_with recipes d groups))
-  dependency-given groups took = alone-map e (groups_steps s d.arguments) (tasks_with recipes d) before later groups (subst (λ (g : List (List DependencyArgument)). AsksAlone e (groups_steps s g) before later (Ok groups)) is took)
+  pub dependency-given : (groups : List (List Text)) → AsksAlone e (argument_groups_steps s given) before later (Ok groups) → AsksAlone e (dependency_steps recipes s d) before later (Ok (tasks_with recipes d groups))
+  dependency-given groups took = alone-map e (argument_groups_steps s d.arguments) (tasks_with recipes d) before later groups (subst (λ (g : List (List DependencyArgument)). AsksAlone e (argument_groups_steps s g) before later (Ok groups)) is took)
 
-  pub dependency-failed : (f : Halt) → AsksAlone e (groups_steps s given) before later (Err f) → AsksAlone e (dependency_steps recipes s d) before later (Err f)
-  dependency-failed f took = alone-stop e (groups_steps s d.arguments) (λ groups. Return (tasks_with recipes d groups)) before later f (subst (λ (g : List (List DependencyArgument)). AsksAlone e (groups_steps s g) before later (Err f)) is took)
+  pub dependency-failed : (f : Halt) → AsksAlone e (argument_groups_steps s given) before later (Err f) → AsksAlone e (dependency_steps recipes s d) before later (Err f)
+  dependency-failed f took = alone-stop e (argument_groups_steps s d.arguments) (λ groups. Return (tasks_with recipes d groups)) before later f (subst (λ (g : List (List DependencyArgument)). AsksAlone e (argument_groups_steps s g) before later (Err f)) is took)
 
 -- a question to the evaluator, as it was answered
 module _ (e : Inquiry → Option Answer) (before later : List ScopeRequest) (still : later ≡ before) where

@@ -22,7 +22,8 @@ use Rattle.just_run_layers.specs.declared.held.Held.{Held}
 use Rattle.just_recipe_body.specs.Covering.{IsBodyCovered}
 use Rattle.just_recipe_body.proofs.AllLemmas.{all-left, all-right}
 use Rattle.just_execution.specs.loops.Arguments.{IsGivenIn, IsReadableArgument}
-use Rattle.just_tasks.specs.Homes.{IsBound, IsRead, arguments_of}
+use Rattle.just_tasks.specs.Homes.{IsBound, IsRead}
+use Rattle.just_recipe.specs.Recipes.{arguments_of}
 use Rattle.just_execution.specs.loops.Homes.{ServesIn}
 use Rattle.just_tasks.specs.declared.scopes.ModuleScope.{ModuleScope}
 use Rattle.just_tasks.proofs.Places.{All-unmap}

@@ -13,9 +13,9 @@ use Rattle.just_run_layers.specs.Interactions.{Question, ToEvaluator, Interactio
 use Rattle.just_parts.specs.Syntax.{SyntaxAnswers}
 use Rattle.just_ast_expressions.specs.declared.expression.Expression.{Expression}
 use Rattle.just_recipe_body.specs.Attributes.{first_said}
-use Rattle.just_recipe_body.specs.Body.{BodyContents, surroundings_of, body_name, string_steps, text_or, unevaluated}
+use Rattle.just_recipe_body.specs.Body.{BodyContents, surroundings_of, body_name, string_steps, text_or, evaluation_fault}
 use Rattle.just_recipe_body.specs.Confirmation.{confirm_by, confirm_steps, confirmation_in, prompt_steps, said_prompt}
-use Rattle.just_execution.specs.Arguments.{argument_steps, dependencies_steps, dependency_steps, gathered, group_steps, groups_steps, tasks_with, texts_given, texts_steps, valued_answered}
+use Rattle.just_execution.specs.Arguments.{argument_steps, dependencies_steps, dependency_steps, gathered, argument_group_steps, argument_groups_steps, tasks_with, texts_given, argument_texts_steps, valued_answered}
 use Rattle.just_execution.specs.Expansion.{Part, Prepare, Block}
 use Rattle.just_execution.specs.TaskInteractions.{IsAlike, ask_in, ask_steps, bound_answered, consent_by, consent_steps, consented, held_steps, interactions_of, prepare_steps, prior_steps, surrounded}
 use Rattle.just_tasks.specs.Pairs.{task}
@@ -50,13 +50,13 @@ module _ (f : Question → Answer) where
       argument-even : (a : DependencyArgument) → result_under f (argument_steps (as_one true) a) ≡ result_under f (argument_steps (as_one false) a)
       argument-even a = ap (λ answer. result_under f (and_then (valued_answered answer) (λ value. Return (texts_given m.context.settings.lists value)))) (alike (Value (as_one true) a.expression))
 
-      group-even : (arguments : List DependencyArgument) → result_under f (group_steps (as_one true) arguments) ≡ result_under f (group_steps (as_one false) arguments)
-      group-even arguments = same-then (texts_steps (as_one true) arguments) (texts_steps (as_one false) arguments) (λ texts. Return (texts ∷ [])) (λ texts. Return (texts ∷ []))
+      group-even : (arguments : List DependencyArgument) → result_under f (argument_group_steps (as_one true) arguments) ≡ result_under f (argument_group_steps (as_one false) arguments)
+      group-even arguments = same-then (argument_texts_steps (as_one true) arguments) (argument_texts_steps (as_one false) arguments) (λ texts. Return (texts ∷ [])) (λ texts. Return (texts ∷ []))
           (same-gathered (argument_steps (as_one true)) (argument_steps (as_one false)) argument-even arguments) (λ texts. refl)
 
       dependency-even : (d : Dependency) → result_under f (dependency_steps recipes (as_one true) d) ≡ result_under f (dependency_steps recipes (as_one false) d)
-      dependency-even d = same-then (groups_steps (as_one true) d.arguments) (groups_steps (as_one false) d.arguments) (λ groups. Return (tasks_with recipes d groups)) (λ groups. Return (tasks_with recipes d groups))
-          (same-gathered (group_steps (as_one true)) (group_steps (as_one false)) group-even d.arguments) (λ groups. refl)
+      dependency-even d = same-then (argument_groups_steps (as_one true) d.arguments) (argument_groups_steps (as_one false) d.arguments) (λ groups. Return (tasks_with recipes d groups)) (λ groups. Return (tasks_with recipes d groups))
+          (same-gathered (argument_group_steps (as_one true)) (argument_group_steps (as_one false)) group-even d.arguments) (λ groups. refl)
 
       priors-even : (r : Recipe Dependency) → result_under f (prior_steps recipes (task true p) r m h) ≡ result_under f (prior_steps recipes (task false p) r m h)
       priors-even r = same-then (dependencies_steps recipes (as_one true) (take r.priors r.dependencies)) (dependencies_steps recipes (as_one false) (take r.priors r.dependencies))
@@ -69,7 +69,7 @@ module _ (f : Question → Answer) where
       by flag = consent_by syntax (task flag p) r m h
 
       prompt-even : (e : Expression) → result_under f (string_steps (by true) e) ≡ result_under f (string_steps (by false) e)
-      prompt-even e = ap (λ answer. result_under f (text_or unevaluated answer)) (alike (StringOf (surroundings_of (by true)) e))
+      prompt-even e = ap (λ answer. result_under f (text_or evaluation_fault answer)) (alike (StringOf (surroundings_of (by true)) e))
 
       confirmed-even : (o : Option (Option Expression)) → result_under f (confirm_by (by true) o) ≡ result_under f (confirm_by (by false) o)
       confirmed-even None = refl

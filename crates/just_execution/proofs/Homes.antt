@@ -6,7 +6,7 @@ use Rattle.just_graph.specs.Steps.{Reached, from_start, from_member}
 use Rattle.just_graph.proofs.Members.{contained, in_map, is_in, the_one}
 use Rattle.just_recipe.specs.declared.dependency.Dependency.{Dependency}
 use Rattle.just_recipe.specs.declared.recipe.Recipe.{Recipe}
-use Rattle.just_recipe.specs.Recipes.{IsOrdered}
+use Rattle.just_recipe.specs.Recipes.{DependenciesStandFirst}
 use Rattle.just_run_layers.specs.Evaluation.{Inquiry, ScopeRequest}
 use Rattle.just_run_layers.specs.declared.held.Held.{Held}
 use Rattle.just_run_layers.specs.declared.host.Entry.{Entry}
@@ -23,7 +23,7 @@ use Rattle.just_execution.specs.loops.TaskInteractions.{Prepares}
 use Rattle.just_tasks.specs.Pairs.{AllBelow, at_place, needed}
 use Rattle.just_recipes.specs.Places.{place_of}
 use Rattle.just_tasks.specs.Leading.{DependsOnPlace, places}
-use Rattle.just_tasks.specs.Scene.{Scene, contents_found, contents_of, lone, running, scene_with}
+use Rattle.just_tasks.specs.Scene.{Scene, contents_found, scope_contents_of, lone, running, scene_with}
 use Rattle.just_tasks.proofs.Lone.{as_run, none-after, none-before, same-module}
 use Rattle.just_execution.specs.Walking.{Prepared}
 use Rattle.just_tasks.specs.declared.scopes.ModuleScope.{ModuleScope}
@@ -82,7 +82,7 @@ module _ (answers : SyntaxAnswers) (modules : Modules) (rs : List (Recipe Depend
         subst (All (IsCallable answers modules rs)) (sym (subst (λ (ds : List Dependency). AreNamed (map lone rs) ds ts) (none rs t.pair.recipe) named)) (All-nil (IsCallable answers modules rs))
     ran-callable part none some before false ts named = named-callable (at_place part rs t.pair.recipe) some before ts named
 
-    module _ (b : Bool) (ordered : IsOrdered rs) (e : Inquiry → Option Answer) where
+    module _ (b : Bool) (ordered : DependenciesStandFirst rs) (e : Inquiry → Option Answer) where
       abbrev seen : Scene
       seen = scene_with answers modules (running b rs)
 
@@ -102,7 +102,7 @@ one-value : {A : Type 0} (o : Option A) (x y : A) → o ≡ Some x → o ≡ Som
 one-value o x y h k = cc
 
 pub contents-there : (answers : SyntaxAnswers) (modules : Modules) (b : Bool) (rs : List (Recipe Dependency)) (r : Recipe Dependency) (m : ModuleScope) → module_scope_at modules r.module_path ≡ Some m →
-    (scene_with answers modules (running b rs)).modules (as_run b r).module_path ≡ Some (contents_of m)
+    (scene_with answers modules (running b rs)).modules (as_run b r).module_path ≡ Some (scope_contents_of m)
 contents-there answers modules b rs r m there = ap (λ path. contents_found (module_scope_at modules path)) (same-module r b) ∙ ap contents_found there
 
 module _ (answers : SyntaxAnswers) (modules : Modules) (rs : List (Recipe Dependency)) (t : Task) (h : Held) (m : ModuleScope) (r : Recipe Dependency) (at : slice_get rs t.pair.recipe ≡ Some r)

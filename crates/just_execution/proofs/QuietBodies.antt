@@ -7,7 +7,7 @@ use Rattle.just_names.specs.Texts.{Text}
 use Rattle.just_run_layers.specs.Host.{Answer, Done, TextGiven, Valued, ScopeGiven, Bound, Paired, Changed, Ran, Refused}
 use Rattle.just_run_layers.specs.Interactions.{Return, Interaction, and_then}
 use Rattle.just_recipe_body.specs.Attributes.{changes_directory, continues_on, directory_of, first_said, timestamp_of}
-use Rattle.just_recipe_body.specs.Body.{BodyContents, changes_or, directory_steps, environment_steps, format_steps, concluded, joined_steps, line_steps, prepare_steps, prepared, said_format_steps, show_steps, string_steps, telling_steps, text_or, time_steps, unevaluated, untimed}
+use Rattle.just_recipe_body.specs.Body.{BodyContents, changes_or, directory_steps, environment_steps, format_steps, concluded, joined_steps, line_steps, body_prepare_steps, prepared, said_format_steps, show_steps, string_steps, telling_steps, text_or, time_steps, evaluation_fault, untimed}
 use Rattle.just_recipe_body.specs.Confirmation.{confirm_by, confirm_steps, confirmation_in, line_answered, prompt_steps, said_prompt}
 use Rattle.just_recipe_body.specs.Judging.{judged}
 use Rattle.just_recipe_body.specs.declared.body.Preparation.{Preparation}
@@ -80,10 +80,10 @@ time-quiet (Some format) = quiet-then (telling_steps format) (λ time. Return (S
 
 module _ (b : BodyContents) where
   string-quiet : (e : Expression) → Quiet (string_steps b e)
-  string-quiet e = (refl, text-quiet unevaluated)
+  string-quiet e = (refl, text-quiet evaluation_fault)
 
   pub line-quiet : (line : Line) (continued : Bool) → Quiet (line_steps b line continued)
-  line-quiet line continued = (refl, text-quiet unevaluated)
+  line-quiet line continued = (refl, text-quiet evaluation_fault)
 
   joined-quiet : (o : Option Expression) → Quiet (joined_steps b o)
   joined-quiet None = tt
@@ -100,7 +100,7 @@ module _ (b : BodyContents) where
   pub format-quiet : Quiet (format_steps b)
   format-quiet = said-quiet (timestamp_of b.recipe.attributes)
 
-  preparation-quiet : Quiet (prepare_steps b)
+  preparation-quiet : Quiet (body_prepare_steps b)
   preparation-quiet = quiet-then (directory_steps b) (λ directory. and_then (format_steps b) (λ format. Return (prepared directory format))) directory-quiet
       (λ directory. quiet-then (format_steps b) (λ format. Return (prepared directory format)) format-quiet (λ format. tt))
 
@@ -156,4 +156,4 @@ module _ (b : BodyContents) where
         (quiet-then (group_command_steps b g) (command_steps b prep) (group_command-quiet g) command-quiet) (ended-quiet (groups_steps b prep gs) (groups-quiet gs))
 
   pub shell_body-quiet : Quiet (shell_steps b)
-  shell_body-quiet = quiet-then (prepare_steps b) (λ prep. lines_steps b prep b.recipe.body) preparation-quiet (λ prep. groups-quiet prep (groups b.syntax b.context.settings b.recipe.body))
+  shell_body-quiet = quiet-then (body_prepare_steps b) (λ prep. lines_steps b prep b.recipe.body) preparation-quiet (λ prep. groups-quiet prep (groups b.syntax b.context.settings b.recipe.body))

@@ -10,7 +10,7 @@ use Rattle.just_recipe_body.specs.Body.{BodyContents, directory_steps, environme
 use Rattle.just_recipe_body.specs.Judging.{judged, no_marks}
 use Rattle.just_recipe_body.specs.declared.judgement.Program.TheVariants as program
 use Rattle.just_script_body.specs.Executors.{executor_of}
-use Rattle.just_script_body.specs.ScriptBody.{heading_steps, call_steps, executed_steps, is_grandiloquent, is_shown, script_run_steps, script_answered, script_call, script_call_steps, script_steps, show_all_steps, show_if_steps, show_time_steps, shown_call_steps, shown_steps, teller_of, texts_steps, unless_dry_steps}
+use Rattle.just_script_body.specs.ScriptBody.{heading_steps, call_script_steps, executed_steps, is_grandiloquent, is_script_shown, script_run_steps, script_answered, script_call, script_call_steps, script_steps, show_all_steps, show_if_steps, show_time_steps, shown_call_steps, shown_steps, script_teller, texts_steps, script_unless_dry_steps}
 use Rattle.just_run_layers.proofs.Quiet.{Quiet, quiet-then}
 use Rattle.just_execution.proofs.QuietBodies.{directory-quiet, environment-quiet, format-quiet, line-quiet, quiet-cond, quiet-given, time-quiet}
 use Rattle.just_run_layers.proofs.Halts.{memory-not}
@@ -32,7 +32,7 @@ module _ (b : BodyContents) where
   answered-quiet (Paired pairs) = memory-not
   answered-quiet (Changed changes) = memory-not
   answered-quiet (Ran answer) =
-      quiet-then (concluded (judged program.Script (teller_of b) (continues_on b.recipe) no_marks answer)) (λ next. Return tt) (quiet-given (judged program.Script (teller_of b) (continues_on b.recipe) no_marks answer)) (λ next. tt)
+      quiet-then (concluded (judged program.Script (script_teller b) (continues_on b.recipe) no_marks answer)) (λ next. Return tt) (quiet-given (judged program.Script (script_teller b) (continues_on b.recipe) no_marks answer)) (λ next. tt)
   answered-quiet (Refused message) = memory-not
 
   told-quiet : (time : Option Text) → Quiet (show_time_steps b time)
@@ -50,7 +50,7 @@ module _ (b : BodyContents) where
 
   call-quiet : (texts : List Text) (executor : Executor) (directory : Option Text) → Quiet (shown_call_steps b executor texts directory)
   call-quiet texts executor directory =
-      quiet-then (show_if_steps (is_grandiloquent b.context.config.verbosity) texts) (λ _. call_steps b executor texts directory) (shown-quiet (is_grandiloquent b.context.config.verbosity) texts)
+      quiet-then (show_if_steps (is_grandiloquent b.context.config.verbosity) texts) (λ _. call_script_steps b executor texts directory) (shown-quiet (is_grandiloquent b.context.config.verbosity) texts)
       (λ _. quiet-then (environment_steps b) (λ changes. script_call_steps b (script_call b executor texts directory changes)) (environment-quiet b) (λ changes. (refl, answered-quiet)))
 
   run-quiet : (texts : List Text) → Quiet (script_run_steps b texts)
@@ -58,7 +58,7 @@ module _ (b : BodyContents) where
       (λ executor. quiet-then (directory_steps b) (shown_call_steps b executor texts) (directory-quiet b) (call-quiet texts executor))
 
   lines-quiet : (texts : List Text) → Quiet (shown_steps b texts)
-  lines-quiet texts = quiet-then (show_if_steps (is_shown b) texts) (λ _. unless_dry_steps b texts) (shown-quiet (is_shown b) texts)
+  lines-quiet texts = quiet-then (show_if_steps (is_script_shown b) texts) (λ _. script_unless_dry_steps b texts) (shown-quiet (is_script_shown b) texts)
       (λ _. quiet-cond b.context.config.dry_run (Return tt) (script_run_steps b texts) tt (run-quiet texts))
 
   pub script_body-quiet : Quiet (script_steps b)

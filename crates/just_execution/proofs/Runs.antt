@@ -11,7 +11,7 @@ use Rattle.just_execution.specs.declared.run.Report.{Report}
 use Rattle.just_tasks.specs.declared.task.Task.{Task}
 use Rattle.just_execution.specs.TaskInteractions.{interactions_of}
 use Rattle.just_tasks.specs.Pairs.{AllBelow}
-use Rattle.just_recipe.specs.Recipes.{IsOrdered}
+use Rattle.just_recipe.specs.Recipes.{DependenciesStandFirst}
 use Rattle.just_execution.specs.Reports.{calls_in, IsRun, TasksRunAsExpected, HasRunTrace, expected_steps}
 use Rattle.just_tasks.specs.Scene.{Scene}
 use Rattle.just_execution.specs.Walking.{fresh_steps, walk_steps}
@@ -24,7 +24,7 @@ without-calls : (r : Result Report Halt) → discard_value (calls_in r) ≡ disc
 without-calls (Ok report) = refl
 without-calls (Err e) = refl
 
-module _ (scene : Scene) (ordered : IsOrdered scene.recipes) (e : Inquiry → Option Answer) (h : Entry → Option Answer) (tops : List Task) (below : AllBelow (length scene.recipes) tops) (old new : Log) (r : Result Report Halt)
+module _ (scene : Scene) (ordered : DependenciesStandFirst scene.recipes) (e : Inquiry → Option Answer) (h : Entry → Option Answer) (tops : List Task) (below : AllBelow (length scene.recipes) tops) (old new : Log) (r : Result Report Halt)
     (took : HasRunTrace e h scene tops old new r) where
   pub account-run : IsRun scene.recipes tops old new r
   account-run = let a = fresh-account scene ordered (both e h) tops below old new (calls_in r) took in record { tables = a.0; account = a.1; tells = a.2 }

@@ -18,7 +18,7 @@ use Rattle.just_execution.specs.loops.TaskInteractions.{Prepares}
 use Rattle.just_execution.specs.loops.Lower.{IsLower}
 use Rattle.just_tasks.specs.declared.task.Task.{Task}
 use Rattle.just_tasks.specs.Pairs.{AllBelow, prior_dependencies, subsequent_dependencies}
-use Rattle.just_recipe.specs.Recipes.{IsOrdered}
+use Rattle.just_recipe.specs.Recipes.{DependenciesStandFirst}
 use Rattle.just_tasks.specs.Scene.{ModuleContents, Scene}
 use Rattle.just_execution.specs.Walking.{Prepared}
 use Rattle.just_execution.proofs.Asked.{ask-named, follow-named, named-all}
@@ -36,18 +36,18 @@ module _ (scene : Scene) (t : Task) (r : Recipe Dependency) (m : ModuleContents)
 pub named-below : (rs : List (Recipe Dependency)) (k : ℕ) (ds : List Dependency) (ts : List Task) → All (IsBefore rs k) ds → AreNamed rs ds ts → AllBelow k ts
 named-below rs k ds ts h n = named-all rs (λ place. place < k) ds ts n (All-weaker (IsBefore rs k) (λ (d : Dependency). place_of rs d.recipe.0 < k) (λ d q. q.1) ds h)
 
-pub leaves-lower : (scene : Scene) → IsOrdered scene.recipes → IsLower (interactions_of scene)
+pub leaves-lower : (scene : Scene) → DependenciesStandFirst scene.recipes → IsLower (interactions_of scene)
 leaves-lower scene ordered = record {
   priors = λ t a g. named-below scene.recipes t.pair.recipe (prior_dependencies scene.recipes t.pair.recipe) a.priors (priors-before scene.recipes t.pair.recipe ordered) (ask-named scene t a g);
   subsequents = λ t h ts g. named-below scene.recipes t.pair.recipe (subsequent_dependencies scene.recipes t.pair.recipe) ts (subsequents-before scene.recipes t.pair.recipe ordered) (follow-named scene t h ts g);
 }
 
 -- what a task was asked for and answered leads to lower places
-pub asked-below : (scene : Scene) → IsOrdered scene.recipes → (e : Inquiry → Option Answer) (h : Entry → Option Answer) (t : Task) (old new : Log) (a : Prepared) →
+pub asked-below : (scene : Scene) → DependenciesStandFirst scene.recipes → (e : Inquiry → Option Answer) (h : Entry → Option Answer) (t : Task) (old new : Log) (a : Prepared) →
     Prepares e h scene t old new (Ok a) → AllBelow t.pair.recipe a.priors
 asked-below scene ordered e h t old new a took = (leaves-lower scene ordered).priors t a (took-gives (both e h) (ask_steps scene t) old new a took)
 
-pub followed-below : (scene : Scene) → IsOrdered scene.recipes → (e : Inquiry → Option Answer) (t : Task) (h : Held) (before later : List ScopeRequest) (ts : List Task) →
+pub followed-below : (scene : Scene) → DependenciesStandFirst scene.recipes → (e : Inquiry → Option Answer) (t : Task) (h : Held) (before later : List ScopeRequest) (ts : List Task) →
     AsksAlone e (follow_steps scene t h) before later (Ok ts) → AllBelow t.pair.recipe ts
 followed-below scene ordered e t h before later ts took =
     (leaves-lower scene ordered).subsequents t h ts (took-gives (both e (λ entry. None)) (follow_steps scene t h) (log_of [] before) (log_of [] later) ts (took (λ entry. None) []))

@@ -38,15 +38,15 @@ abbrev pub argument_steps : Surroundings → DependencyArgument → Interaction 
 argument_steps s a = and_then (value_steps s a.expression) (λ value. Return (texts_given s.context.settings.lists value))
 
 -- the texts of a group: those of its arguments, one after another
-abbrev pub texts_steps : Surroundings → List DependencyArgument → Interaction (List Text)
-texts_steps s arguments = gathered (argument_steps s) arguments
+abbrev pub argument_texts_steps : Surroundings → List DependencyArgument → Interaction (List Text)
+argument_texts_steps s arguments = gathered (argument_steps s) arguments
 
-abbrev pub group_steps : Surroundings → List DependencyArgument → Interaction (List (List Text))
-group_steps s arguments = and_then (texts_steps s arguments) (λ texts. Return (texts ∷ []))
+abbrev pub argument_group_steps : Surroundings → List DependencyArgument → Interaction (List (List Text))
+argument_group_steps s arguments = and_then (argument_texts_steps s arguments) (λ texts. Return (texts ∷ []))
 
 -- the groups of a dependency, one for each parameter
-abbrev pub groups_steps : Surroundings → List (List DependencyArgument) → Interaction (List (List Text))
-groups_steps s given = gathered (group_steps s) given
+abbrev pub argument_groups_steps : Surroundings → List (List DependencyArgument) → Interaction (List (List Text))
+argument_groups_steps s given = gathered (argument_group_steps s) given
 
 -- groups with one text alone at a place
 abbrev pub with_text : List (List Text) → ℕ → Text → List (List Text)
@@ -66,7 +66,7 @@ abbrev pub tasks_with : List (Recipe Dependency) → Dependency → List (List T
 tasks_with recipes d groups = map (task_at (place_of recipes d.recipe.0)) (spread (position has_star d.arguments) groups)
 
 abbrev pub dependency_steps : List (Recipe Dependency) → Surroundings → Dependency → Interaction (List Task)
-dependency_steps recipes s d = and_then (groups_steps s d.arguments) (λ groups. Return (tasks_with recipes d groups))
+dependency_steps recipes s d = and_then (argument_groups_steps s d.arguments) (λ groups. Return (tasks_with recipes d groups))
 
 -- the tasks of dependencies, one after another
 abbrev pub dependencies_steps : List (Recipe Dependency) → Surroundings → List Dependency → Interaction (List Task)

@@ -6,12 +6,12 @@ ghost use Rattle.just_recipe.specs.Recipes.{numbers};
 ghost use Rattle.just_run_layers.specs.Covering.{IsCovered, module_of};
 ghost use Rattle.just_run_layers.specs.Evaluation.{surroundings};
 ghost use Rattle.just_run_layers.specs.Host.{KeepsPromises};
-ghost use Rattle.just_execution.specs.Arguments.{argument_steps, dependencies_steps, groups_steps, task_at, tasks_with, texts_given, texts_steps, value_steps, with_text};
+ghost use Rattle.just_execution.specs.Arguments.{argument_steps, dependencies_steps, argument_groups_steps, task_at, tasks_with, texts_given, argument_texts_steps, value_steps, with_text};
 ghost use Rattle.just_execution.specs.loops.Arguments.{AreReadableGroups, AreReadableArguments, IsGivenIn, IsReadableArgument};
 ghost use Rattle.just_execution.specs.loops.Frames.{items_of_frames};
 ghost use Rattle.just_execution.specs.TaskInteractions.{surrounded};
 ghost use Rattle.just_run_layers.specs.loops.Interactions.{AsksAlone};
-ghost use Rattle.just_tasks.specs.Scene.{contents_of};
+ghost use Rattle.just_tasks.specs.Scene.{scope_contents_of};
 
 use just_data::{Sequence, Text};
 use just_errors::Refusal;
@@ -96,7 +96,7 @@ fn ask_group<'src, E: Evaluation>(
 ) -> Result<Sequence<Text>, Halt<'src>>
     requires { AreReadableArguments (module_of context.now) scope.now arguments.now }
     ensures keeps { KeepsPromises (E.promised evaluation.old) (E.promised evaluation.new) }
-    ensures took { let steps = texts_steps (surroundings context.now scope.now is_dependency []) arguments.now in
+    ensures took { let steps = argument_texts_steps (surroundings context.now scope.now is_dependency []) arguments.now in
         AsksAlone (E.promised evaluation.old) steps (E.requests evaluation.old) (E.requests evaluation.new) result }
 {
     let mut texts = Sequence::new(alloc);
@@ -118,7 +118,7 @@ fn ask_groups<'src, E: Evaluation>(
 ) -> Result<Groups, Halt<'src>>
     requires { AreReadableGroups (module_of context.now) scope.now given.now }
     ensures keeps { KeepsPromises (E.promised evaluation.old) (E.promised evaluation.new) }
-    ensures took { let steps = groups_steps (surroundings context.now scope.now is_dependency []) given.now in
+    ensures took { let steps = argument_groups_steps (surroundings context.now scope.now is_dependency []) given.now in
         AsksAlone (E.promised evaluation.old) steps (E.requests evaluation.old) (E.requests evaluation.new) result }
 {
     let mut groups = Sequence::new(alloc);
@@ -223,7 +223,7 @@ pub fn ask_dependencies<'src, E: Evaluation>(
     requires there { All (λ (d : Dependency). Contains (numbers recipes.now) d.recipe.0) dependencies.now }
     requires given { All (IsGivenIn (module_of home.now.context) held.now.scope) dependencies.now }
     ensures keeps { KeepsPromises (E.promised evaluation.old) (E.promised evaluation.new) }
-    ensures took { let steps = dependencies_steps recipes.now (surrounded (contents_of home.now) task.now held.now) dependencies.now in
+    ensures took { let steps = dependencies_steps recipes.now (surrounded (scope_contents_of home.now) task.now held.now) dependencies.now in
         AsksAlone (E.promised evaluation.old) steps (E.requests evaluation.old) (E.requests evaluation.new) (items_of_frames result) }
 {
     let mut tasks = Vec::new(alloc);

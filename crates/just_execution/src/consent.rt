@@ -2,7 +2,7 @@
 ghost use Rattle.std.specs.Prelude.{◌≡◌};
 ghost use Rattle.just_execution.specs.loops.Homes.{ServesIn};
 ghost use Rattle.just_execution.specs.TaskInteractions.{consent_by, consent_steps};
-ghost use Rattle.just_tasks.specs.Scene.{contents_of};
+ghost use Rattle.just_tasks.specs.Scene.{scope_contents_of};
 ghost use Rattle.just_run_layers.specs.Host.{KeepsPromises};
 ghost use Rattle.just_run_layers.specs.Interactions.{HasTrace, both, log_of};
 
@@ -32,7 +32,7 @@ pub fn ask_consent<'src, S: Syntax, E: Evaluation, H: Host>(
     ensures keeps_host { KeepsPromises (H.promised host.old) (H.promised host.new) }
     ensures took { let first = log_of (H.entries host.old) (E.requests evaluation.old) in
         let last = log_of (H.entries host.new) (E.requests evaluation.new) in
-        let steps = consent_steps (consent_by (S.answers syntax.now) task.now recipe.now (contents_of home.now) held.now) in
+        let steps = consent_steps (consent_by (S.answers syntax.now) task.now recipe.now (scope_contents_of home.now) held.now) in
         HasTrace (both (E.promised evaluation.old) (H.promised host.old)) steps first last result }
 {
     if home.context.config.yes {

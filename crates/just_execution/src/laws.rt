@@ -9,14 +9,14 @@ ghost use Rattle.just_tasks.specs.declared.task.Task.{Task};
 ghost use Rattle.just_execution.specs.Expansion.{Block};
 ghost use Rattle.just_execution.specs.TaskInteractions.{IsAlike, interactions_of};
 ghost use Rattle.just_tasks.specs.Pairs.{AllBelow};
-ghost use Rattle.just_recipe.specs.Recipes.{IsOrdered};
+ghost use Rattle.just_recipe.specs.Recipes.{DependenciesStandFirst};
 ghost use Rattle.just_execution.specs.Reports.{IsEnough, IsFirstAsked, AgreeUnlessResourceError};
 ghost use Rattle.just_execution.specs.Run.{PriorsIgnoreFlag, run_parts};
 ghost use Rattle.just_tasks.specs.Scene.{AreAlike, Scene};
 
 /// An expected run with as much fuel as there are recipes is whole: more fuel changes nothing.
 pub fn enough_fuel()
-    ensures { (scene : Scene) (n : ℕ) → IsOrdered scene.recipes → length scene.recipes ≤ n → IsEnough scene n }
+    ensures { (scene : Scene) (n : ℕ) → DependenciesStandFirst scene.recipes → length scene.recipes ≤ n → IsEnough scene n }
 {}
 
 /// Where the evaluator answers alike whether or not a recipe runs as a dependency, the priors do not hang on how a task is
@@ -34,7 +34,7 @@ pub fn one_outcome()
 /// In an expected run each block is of the very task that asks for its pair, and so has what is held for that task.
 pub fn blocks_are_first_asked()
     ensures { (scene : Scene) (f : Question → Answer) (n : ℕ) (tops : List Task) →
-        IsOrdered scene.recipes → AllBelow n tops → PriorsIgnoreFlag (interactions_of scene) f n tops →
+        DependenciesStandFirst scene.recipes → AllBelow n tops → PriorsIgnoreFlag (interactions_of scene) f n tops →
         (t : Task) → In (Block t) (run_parts (interactions_of scene) f n tops) → IsFirstAsked (interactions_of scene) f n tops t }
 {}
 

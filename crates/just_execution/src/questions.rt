@@ -11,7 +11,7 @@ ghost use Rattle.just_execution.specs.loops.Homes.{IsCallable, IsServed};
 ghost use Rattle.just_execution.specs.TaskInteractions.{follow_steps, parameters_steps};
 ghost use Rattle.just_run_layers.specs.loops.Interactions.{AsksAlone};
 ghost use Rattle.just_execution.specs.loops.TaskInteractions.{Prepares, prepared_of};
-ghost use Rattle.just_tasks.specs.Scene.{contents_of, scene_in};
+ghost use Rattle.just_tasks.specs.Scene.{scope_contents_of, scene_in};
 
 use crate::arguments::ask_dependencies;
 use crate::consent::ask_consent;
@@ -42,7 +42,7 @@ fn ask_parameters<'src, E: Evaluation>(
 ) -> Result<Held<'src>, Halt<'src>>
     requires { AreParametersCovered (module_of home.now.context) home.now.scope none_hidden recipe.now.parameters }
     ensures keeps { KeepsPromises (E.promised evaluation.old) (E.promised evaluation.new) }
-    ensures took { let steps = parameters_steps recipe.now task.now (contents_of home.now) in
+    ensures took { let steps = parameters_steps recipe.now task.now (scope_contents_of home.now) in
         AsksAlone (E.promised evaluation.old) steps (E.requests evaluation.old) (E.requests evaluation.new) result }
     ensures binds { IfOk result (λ held. BindsParameters recipe.now.parameters home.now.scope held.scope) }
 {

@@ -9,7 +9,7 @@ ghost use Rattle.just_tasks.specs.Homes.{AllHaveModuleScope};
 ghost use Rattle.just_execution.specs.loops.Homes.{IsCallable, IsServed};
 ghost use Rattle.just_execution.specs.TaskInteractions.{Executes};
 ghost use Rattle.just_tasks.specs.Pairs.{AllBelow};
-ghost use Rattle.just_recipe.specs.Recipes.{IsOrdered, IsResolved};
+ghost use Rattle.just_recipe.specs.Recipes.{DependenciesStandFirst, IsResolved};
 ghost use Rattle.just_execution.specs.Reports.{TasksRunAsExpected, IsRun, HasRunTrace};
 ghost use Rattle.just_tasks.specs.Scene.{running, scene_in};
 
@@ -77,7 +77,7 @@ fn call_task<'src, S: Syntax, E: Evaluation, H: Host>(
     run: &mut RunState<'src>,
     task: Task,
 ) -> Result<(), Halt<'src>>
-    requires ordered { IsOrdered recipes.now }
+    requires ordered { DependenciesStandFirst recipes.now }
     requires resolved { All IsResolved recipes.now }
     requires callable { IsCallable (S.answers scopes.now.syntax.now) scopes.now.modules recipes.now task }
     requires sound { IsSoundIn (S.answers scopes.now.syntax.now) scopes.now.modules recipes.now run.old }
@@ -113,7 +113,7 @@ fn run_block<'src, S: Syntax, E: Evaluation, H: Host>(
     held: Held<'src>,
 ) -> Result<(), Halt<'src>>
     requires same { AgreesWith E.sigils E.continues (S.answers scopes.now.syntax.now) }
-    requires ordered { IsOrdered recipes.now }
+    requires ordered { DependenciesStandFirst recipes.now }
     requires resolved { All IsResolved recipes.now }
     requires callable { IsCallable (S.answers scopes.now.syntax.now) scopes.now.modules recipes.now task }
     requires served { IsServed (S.answers scopes.now.syntax.now) scopes.now.modules recipes.now task held }
@@ -145,7 +145,7 @@ fn take<'src, S: Syntax, E: Evaluation, H: Host>(
     frame: Frame<'src>,
 ) -> Result<(), Halt<'src>>
     requires same { AgreesWith E.sigils E.continues (S.answers scopes.now.syntax.now) }
-    requires ordered { IsOrdered recipes.now }
+    requires ordered { DependenciesStandFirst recipes.now }
     requires resolved { All IsResolved recipes.now }
     requires there { IsSoundFrameIn (S.answers scopes.now.syntax.now) scopes.now.modules recipes.now (length run.old.calls.items) frame }
     requires sound { IsSoundIn (S.answers scopes.now.syntax.now) scopes.now.modules recipes.now run.old }
@@ -180,7 +180,7 @@ fn finish<'src, S: Syntax, E: Evaluation, H: Host>(
     run: &mut RunState<'src>,
 ) -> Result<(), Halt<'src>>
     requires same { AgreesWith E.sigils E.continues (S.answers scopes.now.syntax.now) }
-    requires ordered { IsOrdered recipes.now }
+    requires ordered { DependenciesStandFirst recipes.now }
     requires resolved { All IsResolved recipes.now }
     requires sound { IsSoundIn (S.answers scopes.now.syntax.now) scopes.now.modules recipes.now run.old }
     ensures keeps { KeepsPromises (E.promised evaluation.old) (E.promised evaluation.new) }
@@ -206,7 +206,7 @@ fn start<'src, S: Syntax, E: Evaluation, H: Host>(
     tasks: Vec<Task>,
 ) -> Result<Report, Halt<'src>>
     requires same { AgreesWith E.sigils E.continues (S.answers scopes.now.syntax.now) }
-    requires ordered { IsOrdered recipes.now }
+    requires ordered { DependenciesStandFirst recipes.now }
     requires resolved { All IsResolved recipes.now }
     requires below { AllBelow (length recipes.now) tasks.items }
     requires home { AllHaveModuleScope (S.answers scopes.now.syntax.now) scopes.now.modules recipes.now tasks.items }

@@ -7,10 +7,10 @@ use Rattle.std.specs.List.{Contains}
 use Rattle.std.specs.declared.vec.Vec.{Vec}
 use Rattle.std.specs.declared.alloc.Global.{Global}
 use Rattle.just_graph.specs.Steps.{Leads, IsCircle, circle_by}
-use Rattle.just_graph_order.specs.Through.{Reads, reads_by}
+use Rattle.just_graph_order.specs.Through.{ReadsThrough, reads_by}
 use Rattle.just_graph.specs.Graph.{targets, HasEdge}
 use Rattle.just_graph.specs.Found.{is_seen, Added}
-use Rattle.just_graph_order.specs.loops.Came.{CameBy}
+use Rattle.just_graph_order.specs.loops.Came.{CameThere}
 use Rattle.just_graph.proofs.Adding.{row_done}
 use Rattle.just_graph_order.proofs.Closing.{Closing, closing_over, leads_seen}
 
@@ -65,7 +65,7 @@ module _ (g : List (Vec ℕ Global)) (start : ℕ) where
       ];
     }
 
-    came_edge : (a b : ℕ) → CameBy start found came a b → HasEdge g a b
+    came_edge : (a b : ℕ) → CameThere start found came a b → HasEdge g a b
     came_edge a b r = subst (HasEdge g a) r.is (elim r.from [
       | inl e ↦ elim (c.from r.place r.inside) [
         | inl f ↦ subst (λ x. HasEdge g x (slice_index found r.place)) (sym e.1) f.1
@@ -77,11 +77,11 @@ module _ (g : List (Vec ℕ Global)) (start : ℕ) where
       ]
     ])
 
-    pub edge_circle : (solid : List Bool) (fs cs : List ℕ) (next : ℕ) (circle : List ℕ) → fs ≡ found → cs ≡ came → slice_index found next ≡ start → IsCircle (Reads (CameBy (slice_index fs next) fs cs) solid) circle → IsCircle (Reads (HasEdge g) solid) circle
+    pub edge_circle : (solid : List Bool) (fs cs : List ℕ) (next : ℕ) (circle : List ℕ) → fs ≡ found → cs ≡ came → slice_index found next ≡ start → IsCircle (ReadsThrough (CameThere (slice_index fs next) fs cs) solid) circle → IsCircle (ReadsThrough (HasEdge g) solid) circle
     edge_circle solid fs cs next circle ef ec is k =
-        let k₁ : IsCircle (Reads (CameBy (slice_index found next) found cs) solid) circle = subst (λ x. IsCircle (Reads (CameBy (slice_index x next) x cs) solid) circle) ef k in
-        let k₂ : IsCircle (Reads (CameBy (slice_index found next) found came) solid) circle = subst (λ x. IsCircle (Reads (CameBy (slice_index found next) found x) solid) circle) ec k₁ in
-        circle_by (reads_by came_edge) circle (subst (λ x. IsCircle (Reads (CameBy x found came) solid) circle) is k₂)
+        let k₁ : IsCircle (ReadsThrough (CameThere (slice_index found next) found cs) solid) circle = subst (λ x. IsCircle (ReadsThrough (CameThere (slice_index x next) x cs) solid) circle) ef k in
+        let k₂ : IsCircle (ReadsThrough (CameThere (slice_index found next) found came) solid) circle = subst (λ x. IsCircle (ReadsThrough (CameThere (slice_index found next) found x) solid) circle) ec k₁ in
+        circle_by (reads_by came_edge) circle (subst (λ x. IsCircle (ReadsThrough (CameThere x found came) solid) circle) is k₂)
 
   -- if none of the numbers that were looked at is the start, nor the next one, then one more isn't
   pub not_start_more : (row : List ℕ) (seen : List Bool) (found : List ℕ) (seen' : List Bool) (found' : List ℕ) (n : ℕ) → Added row (length row) seen found seen' found' → n < length found → (slice_index found n ≡ start → ⊥) → ((k : ℕ) → k < n → slice_index found k ≡ start → ⊥) → (k : ℕ) → k < n + 1 → slice_index found' k ≡ start → ⊥

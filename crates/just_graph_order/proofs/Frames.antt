@@ -11,7 +11,7 @@ use Rattle.just_graph.specs.Steps.{from_start, from_member}
 use Rattle.just_graph.specs.Graph.{targets, HasEdge, IsGraph}
 use Rattle.just_graph.specs.Found.{is_seen, unseen}
 use Rattle.just_graph_order.specs.loops.Finished.{Finishing}
-use Rattle.just_graph_order.specs.loops.Path.{nodes, counts}
+use Rattle.just_graph_order.specs.loops.Path.{nodes, frame_counts}
 use Rattle.just_graph_order.specs.declared.finish_order.Frame.{Frame}
 use Rattle.just_graph.proofs.Targets.{target_inside}
 use Rattle.just_graph_order.proofs.Inside.{marked_inside}
@@ -20,16 +20,16 @@ use Rattle.just_graph_order.proofs.Finishes.{opened, advanced, closed}
 
 module _ (g : List (Vec ℕ Global)) (roots : List ℕ) (s : List Bool) (o : List ℕ) where
   -- a root is put on the path
-  pub begun : (root : ℕ) (path : List Frame) → Finishing g roots s [] [] o → root < length g → is_seen s root ≡ false → Contains roots root → path ≡ record { node = root; passed = 0 } ∷ [] → Finishing g roots (set s root true) (nodes path) (counts path) o
+  pub begun : (root : ℕ) (path : List Frame) → Finishing g roots s [] [] o → root < length g → is_seen s root ≡ false → Contains roots root → path ≡ record { node = root; passed = 0 } ∷ [] → Finishing g roots (set s root true) (nodes path) (frame_counts path) o
   begun root path f inside is_new is_root is_path =
-      subst (λ x. Finishing g roots (set s root true) (nodes x) (counts x) o) (sym is_path)
+      subst (λ x. Finishing g roots (set s root true) (nodes x) (frame_counts x) o) (sym is_path)
       (opened g roots s [] [] o root f inside is_new (from_start is_root) (λ k h. absurd (omega arith)))
 
-  module _ (path rest : List Frame) (top : Frame) (row : List ℕ) (to : ℕ) (f : Finishing g roots s (nodes path) (counts path) o) (popped : path ≡ rest ++ top ∷ []) where
-    at_top : Finishing g roots s (nodes rest ++ top.node ∷ []) (counts rest ++ top.passed ∷ []) o
+  module _ (path rest : List Frame) (top : Frame) (row : List ℕ) (to : ℕ) (f : Finishing g roots s (nodes path) (frame_counts path) o) (popped : path ≡ rest ++ top ∷ []) where
+    at_top : Finishing g roots s (nodes rest ++ top.node ∷ []) (frame_counts rest ++ top.passed ∷ []) o
     at_top =
-        subst (λ p. Finishing g roots s p (counts rest ++ top.passed ∷ []) o) (ap nodes popped ∙ map_push (λ (x : Frame). x.node) rest top)
-        (subst (λ n. Finishing g roots s (nodes path) n o) (ap counts popped ∙ map_push (λ (x : Frame). x.passed) rest top) f)
+        subst (λ p. Finishing g roots s p (frame_counts rest ++ top.passed ∷ []) o) (ap nodes popped ∙ map_push (λ (x : Frame). x.node) rest top)
+        (subst (λ n. Finishing g roots s (nodes path) n o) (ap frame_counts popped ∙ map_push (λ (x : Frame). x.passed) rest top) f)
 
     top_seen : is_seen s top.node ≡ true
     top_seen = each_last (λ a. is_seen s a ≡ true) (nodes rest) top.node at_top.path_seen
@@ -38,8 +38,8 @@ module _ (g : List (Vec ℕ Global)) (roots : List ℕ) (s : List Bool) (o : Lis
     top_inside = omega (arith, f.seen_len, marked_inside s top.node top_seen)
 
     module _ (is_row : row ≡ targets g top.node) (passed : (j : ℕ) → top.passed ≤ j → j < to → is_seen s (slice_index row j) ≡ true) where
-      at_next : Finishing g roots s (nodes rest ++ top.node ∷ []) (counts rest ++ to ∷ []) o
-      at_next = advanced g roots s (nodes rest) (counts rest) o top.node top.passed to at_top (λ j h l. subst (λ xs. is_seen s (slice_index xs j) ≡ true) is_row (passed j h l))
+      at_next : Finishing g roots s (nodes rest ++ top.node ∷ []) (frame_counts rest ++ to ∷ []) o
+      at_next = advanced g roots s (nodes rest) (frame_counts rest) o top.node top.passed to at_top (λ j h l. subst (λ xs. is_seen s (slice_index xs j) ≡ true) is_row (passed j h l))
 
       -- the next edge leads to a node that isn't seen
       module _ (graph : IsGraph g) (left : to < length row) where
@@ -52,7 +52,7 @@ module _ (g : List (Vec ℕ Global)) (roots : List ℕ) (s : List Bool) (o : Lis
         last_edge : (k : ℕ) → k + 1 ≡ length (nodes rest ++ top.node ∷ []) → HasEdge g (slice_index (nodes rest ++ top.node ∷ []) k) (slice_index row to)
         last_edge k e = subst (λ a. HasEdge g a (slice_index row to)) (sym (push_new (nodes rest) top.node k (omega (arith, length_push (nodes rest) top.node)))) next_edge
 
-        pub went_down : (back down : List Frame) → back ≡ rest ++ record { node = top.node; passed = to } ∷ [] → down ≡ back ++ record { node = slice_index row to; passed = 0 } ∷ [] → is_seen s (slice_index row to) ≡ false → Finishing g roots (set s (slice_index row to) true) (nodes down) (counts down) o
+        pub went_down : (back down : List Frame) → back ≡ rest ++ record { node = top.node; passed = to } ∷ [] → down ≡ back ++ record { node = slice_index row to; passed = 0 } ∷ [] → is_seen s (slice_index row to) ≡ false → Finishing g roots (set s (slice_index row to) true) (nodes down) (frame_counts down) o
         went_down back down is_back is_down is_new =
             let v : ℕ = slice_index row to in
             let s' : List Bool = set s v true in
@@ -60,16 +60,16 @@ module _ (g : List (Vec ℕ Global)) (roots : List ℕ) (s : List Bool) (o : Lis
             let next : Frame = record { node = v; passed = 0 } in
             let is_nodes : nodes down ≡ nodes rest ++ top.node ∷ [] ++ v ∷ [] =
             ap nodes is_down ∙ (map_push (λ (x : Frame). x.node) back next ∙ ap (λ xs. xs ++ v ∷ []) (ap nodes is_back ∙ map_push (λ (x : Frame). x.node) rest below)) in
-            let is_counts : counts down ≡ counts rest ++ to ∷ [] ++ 0 ∷ [] =
-            ap counts is_down ∙ (map_push (λ (x : Frame). x.passed) back next ∙ ap (λ xs. xs ++ 0 ∷ []) (ap counts is_back ∙ map_push (λ (x : Frame). x.passed) rest below)) in
-            subst (λ p. Finishing g roots s' p (counts down) o) (sym is_nodes)
+            let is_counts : frame_counts down ≡ frame_counts rest ++ to ∷ [] ++ 0 ∷ [] =
+            ap frame_counts is_down ∙ (map_push (λ (x : Frame). x.passed) back next ∙ ap (λ xs. xs ++ 0 ∷ []) (ap frame_counts is_back ∙ map_push (λ (x : Frame). x.passed) rest below)) in
+            subst (λ p. Finishing g roots s' p (frame_counts down) o) (sym is_nodes)
             (subst (λ n. Finishing g roots s' (nodes rest ++ top.node ∷ [] ++ v ∷ []) n o) (sym is_counts)
-            (opened g roots s (nodes rest ++ top.node ∷ []) (counts rest ++ to ∷ []) o v at_next next_inside is_new (from_member (f.reached top.node top_seen) refl next_edge) last_edge))
+            (opened g roots s (nodes rest ++ top.node ∷ []) (frame_counts rest ++ to ∷ []) o v at_next next_inside is_new (from_member (f.reached top.node top_seen) refl next_edge) last_edge))
 
       -- no edge is left
-      pub went_up : (order : List ℕ) → length row ≤ to → order ≡ o ++ top.node ∷ [] → Finishing g roots s (nodes rest) (counts rest) order
+      pub went_up : (order : List ℕ) → length row ≤ to → order ≡ o ++ top.node ∷ [] → Finishing g roots s (nodes rest) (frame_counts rest) order
       went_up order all is_order =
-          subst (Finishing g roots s (nodes rest) (counts rest)) (sym is_order) (closed g roots s (nodes rest) (counts rest) o top.node to at_next
+          subst (Finishing g roots s (nodes rest) (frame_counts rest)) (sym is_order) (closed g roots s (nodes rest) (frame_counts rest) o top.node to at_next
           (λ j h l. absurd (let e : length row ≡ length (targets g top.node) = ap length is_row in omega arith)))
 
 -- a step down makes the loop's measure smaller: one node more is seen, and the path has one frame more

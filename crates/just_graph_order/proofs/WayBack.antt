@@ -3,8 +3,8 @@
 use Rattle.std.proofs.Common.{◌≡◌, ℕ, ◌+◌, ◌-◌, ◌<◌, ◌≤◌, Bool, false, List, [], ◌∷◌, ◌++◌, drop, reverse, length, get_or, slice_index, ◌⊎◌, inl, inr, refl, sym, ◌∙◌, ap, subst, arith}
 use Rattle.std.proofs.lemmas.List.{length_push, length-reverse, length-drop, get_or-reverse, get_or-drop}
 use Rattle.just_graph.specs.Steps.{IsWalk, IsOnce, IsCircle}
-use Rattle.just_graph_order.specs.Through.{IsSolid, Passes, at_once, passing, Reads}
-use Rattle.just_graph_order.specs.loops.Came.{CameBy}
+use Rattle.just_graph_order.specs.Through.{IsSolid, Passes, at_once, passing, ReadsThrough}
+use Rattle.just_graph_order.specs.loops.Came.{CameThere}
 use Rattle.just_graph.proofs.Pushes.{push_old, push_new, each_push, once_push, walk_push}
 
 -- a walk against the steps that begins and ends with s is a circle, the other way round
@@ -50,24 +50,24 @@ pub record Backing (solid : List Bool) (found came : List ℕ) (start at : ℕ) 
   pub some : 0 < length c
   pub first : slice_index c 0 ≡ start
   pub solids : (k : ℕ) → k < length c → IsSolid solid (slice_index c k)
-  pub walk : IsWalk (λ a b. Reads (CameBy start found came) solid b a) c
+  pub walk : IsWalk (λ a b. ReadsThrough (CameThere start found came) solid b a) c
   pub once : IsOnce c
   pub later : (k : ℕ) → k < length c → (j : ℕ) × (at ≤ j) × (j < length found) × (slice_index found j ≡ slice_index c k)
-  pub carries : (k : ℕ) → k + 1 ≡ length c → Carries (CameBy start found came) solid (slice_index found at) (slice_index c k)
+  pub carries : (k : ℕ) → k + 1 ≡ length c → Carries (CameThere start found came) solid (slice_index found at) (slice_index c k)
 
 module _ (solid : List Bool) (found came : List ℕ) (start : ℕ) where
   module _ (apart : IsOnce found) (at : ℕ) (c : List ℕ) (b : Backing solid found came start at c) where
-    on : (m : ℕ) → CameBy start found came m (slice_index found at) → (k : ℕ) → k + 1 ≡ length c → Passes (CameBy start found came) solid m (slice_index c k)
+    on : (m : ℕ) → CameThere start found came m (slice_index found at) → (k : ℕ) → k + 1 ≡ length c → Passes (CameThere start found came) solid m (slice_index c k)
     on m r k e = elim (b.carries k e) [
-      | inl same ↦ at_once (subst (CameBy start found came m) same r)
+      | inl same ↦ at_once (subst (CameThere start found came m) same r)
       | inr w ↦ passing r w.0 w.1
     ]
 
-    reads_last : (m : ℕ) → IsSolid solid m → CameBy start found came m (slice_index found at) → (k : ℕ) → k + 1 ≡ length c → Reads (CameBy start found came) solid m (slice_index c k)
+    reads_last : (m : ℕ) → IsSolid solid m → CameThere start found came m (slice_index found at) → (k : ℕ) → k + 1 ≡ length c → ReadsThrough (CameThere start found came) solid m (slice_index c k)
     reads_last m h r k e = record { reader = h; read = b.solids k (omega arith); way = on m r k e }
 
     module _ (p : ℕ) (is_p : p ≡ slice_index came at) (before : p < at) where
-      came_by : CameBy start found came (slice_index found p) (slice_index found at)
+      came_by : CameThere start found came (slice_index found p) (slice_index found at)
       came_by = record { place = at; inside = b.inside; is = refl; from = inr (subst (λ x. x < at) is_p before, ap (slice_index found) (sym is_p)) }
 
       pub back_pushed : (more : List ℕ) → IsSolid solid (slice_index found p) → more ≡ c ++ slice_index found p ∷ [] → Backing solid found came start p more
@@ -78,7 +78,7 @@ module _ (solid : List Bool) (found came : List ℕ) (start : ℕ) where
             some = omega (arith, length_push c m);
             first = push_old c m 0 b.some ∙ b.first;
             solids = each_push (IsSolid solid) c m b.solids h;
-            walk = walk_push (λ x y. Reads (CameBy start found came) solid y x) c m b.walk (reads_last m h came_by);
+            walk = walk_push (λ x y. ReadsThrough (CameThere start found came) solid y x) c m b.walk (reads_last m h came_by);
             once = once_push c m b.once (λ k l e. let j = b.later k l in apart p j.0 (omega (arith, j.1)) j.2 (sym (j.3 ∙ e)));
             later = each_push (λ x. (j : ℕ) × (p ≤ j) × (j < length found) × (slice_index found j ≡ x)) c m
                 (λ k l. let j = b.later k l in (j.0, omega (arith, j.1), j.2, j.3)) (p, omega arith, omega (arith, b.inside), refl);
@@ -97,9 +97,9 @@ module _ (solid : List Bool) (found came : List ℕ) (start : ℕ) where
         carries = λ k e. inr (passes, on (slice_index found p) came_by k e);
       }
 
-    pub back_over : (more circle : List ℕ) → slice_index came at ≡ at → IsSolid solid start → more ≡ c ++ start ∷ [] → circle ≡ reverse more → IsCircle (Reads (CameBy start found came) solid) circle
+    pub back_over : (more circle : List ℕ) → slice_index came at ≡ at → IsSolid solid start → more ≡ c ++ start ∷ [] → circle ≡ reverse more → IsCircle (ReadsThrough (CameThere start found came) solid) circle
     back_over more circle own h is_more is_circle =
-        let r : CameBy start found came start (slice_index found at) = record { place = at; inside = b.inside; is = refl; from = inl (own, refl) } in
-        subst (IsCircle (Reads (CameBy start found came) solid)) (sym (is_circle ∙ ap reverse is_more))
-        (reversed_circle (Reads (CameBy start found came) solid) c start
-        (walk_push (λ x y. Reads (CameBy start found came) solid y x) c start b.walk (reads_last start h r)) b.once b.some b.first)
+        let r : CameThere start found came start (slice_index found at) = record { place = at; inside = b.inside; is = refl; from = inl (own, refl) } in
+        subst (IsCircle (ReadsThrough (CameThere start found came) solid)) (sym (is_circle ∙ ap reverse is_more))
+        (reversed_circle (ReadsThrough (CameThere start found came) solid) c start
+        (walk_push (λ x y. ReadsThrough (CameThere start found came) solid y x) c start b.walk (reads_last start h r)) b.once b.some b.first)

@@ -5,9 +5,9 @@ ghost use Rattle.std.specs.List.{All, Contains};
 ghost use Rattle.just_graph.specs.Found.{is_seen};
 ghost use Rattle.just_graph.specs.Graph.{HasEdge, IsGraph};
 ghost use Rattle.just_graph.specs.Steps.{IsCircle, IsOnce, Leads};
-ghost use Rattle.just_graph_order.specs.loops.Came.{CameBy};
+ghost use Rattle.just_graph_order.specs.loops.Came.{CameThere};
 ghost use Rattle.just_graph_order.specs.loops.Finished.{Closed};
-ghost use Rattle.just_graph_order.specs.Through.{IsSolid, Reads};
+ghost use Rattle.just_graph_order.specs.Through.{IsSolid, ReadsThrough};
 
 use just_graph::rows::{add, row};
 use std::alloc::{AllocError, Global};
@@ -51,7 +51,7 @@ fn way_back(
     requires earlier { (k : ℕ) → k < length found.now → slice_index came.now k ≤ k }
     requires place { place < length found.now }
     requires start { IsSolid solid.now (slice_index found.now place) }
-    ensures { IfOk result (λ circle. IsCircle (Reads (CameBy (slice_index found.now place) found.now came.now) solid.now) circle.items) }
+    ensures { IfOk result (λ circle. IsCircle (ReadsThrough (CameThere (slice_index found.now place) found.now came.now) solid.now) circle.items) }
 {
     let mut circle = Vec::new(alloc);
     circle.push(found[place])?;
@@ -87,7 +87,7 @@ fn circle_at(
     requires solid { length solid.now ≡ length edges.now }
     requires start { start < length edges.now }
     requires start_solid { IsSolid solid.now start }
-    ensures circle { IfOk result (λ found. IfSome found (λ circle. IsCircle (Reads (HasEdge edges.now) solid.now) circle.items)) }
+    ensures circle { IfOk result (λ found. IfSome found (λ circle. IsCircle (ReadsThrough (HasEdge edges.now) solid.now) circle.items)) }
     ensures never { IfOk result (λ found. IfNone found (Leads (HasEdge edges.now) start start → ⊥)) }
 {
     let mut seen = Vec::new(alloc);
@@ -120,7 +120,7 @@ pub(crate) fn solid_circle(
     requires graph { IsGraph edges.now }
     requires solid { length solid.now ≡ length edges.now }
     requires nodes { All (λ a. a < length edges.now) nodes.now }
-    ensures circle { IfOk result (λ found. IfSome found (λ circle. IsCircle (Reads (HasEdge edges.now) solid.now) circle.items)) }
+    ensures circle { IfOk result (λ found. IfSome found (λ circle. IsCircle (ReadsThrough (HasEdge edges.now) solid.now) circle.items)) }
     ensures never { let turns = λ (a : ℕ). Leads (HasEdge edges.now) a a in
         IfOk result (λ found. IfNone found ((a : ℕ) → Contains nodes.now a → IsSolid solid.now a → turns a → ⊥)) }
 {
@@ -152,8 +152,8 @@ pub(crate) fn circle_from_first(
     requires graph { IsGraph edges.now }
     requires solid { length solid.now ≡ length edges.now }
     requires finished { All (λ a. a < length edges.now) finished.now }
-    requires circle { IsCircle (Reads (HasEdge edges.now) solid.now) circle.items }
-    ensures { IfOk result (λ made. IsCircle (Reads (HasEdge edges.now) solid.now) made.items) }
+    requires circle { IsCircle (ReadsThrough (HasEdge edges.now) solid.now) circle.items }
+    ensures { IfOk result (λ made. IsCircle (ReadsThrough (HasEdge edges.now) solid.now) made.items) }
 {
     let mut members = HashSet::new(alloc);
     members.extend(circle.as_slice().iter().copied())?;

@@ -4,7 +4,7 @@ ghost use Rattle.std.specs.Prelude.{◌≡◌, ◌<◌, false, filter, get_or, l
 ghost use Rattle.std.specs.List.{All};
 ghost use Rattle.just_graph.specs.Graph.{HasEdge, IsGraph};
 ghost use Rattle.just_graph.specs.Steps.{IsCircle};
-ghost use Rattle.just_graph_order.specs.Through.{IsOrderThrough, Reads};
+ghost use Rattle.just_graph_order.specs.Through.{IsOrderThrough, ReadsThrough};
 
 use crate::circles::{circle_from_first, solid_circle};
 use crate::finish_order::finish;
@@ -37,7 +37,7 @@ pub fn order_through(
     requires solid { length solid.now ≡ length edges.now }
     requires roots { All (λ a. a < length edges.now) roots.now }
     ensures ordered { IfOk result (λ answer. IfOk answer (λ order. IsOrderThrough (HasEdge edges.now) solid.now roots.now order.items)) }
-    ensures circle { IfOk result (λ answer. IfErr answer (λ circle. IsCircle (Reads (HasEdge edges.now) solid.now) circle.items)) }
+    ensures circle { IfOk result (λ answer. IfErr answer (λ circle. IsCircle (ReadsThrough (HasEdge edges.now) solid.now) circle.items)) }
 {
     let finished = finish(alloc, edges, roots)?;
     if let Some(circle) = solid_circle(alloc, edges, solid, finished.as_slice())? {

@@ -11,7 +11,7 @@ use Rattle.just_justfile.specs.declared.justfile.RecipeKey.{RecipeKey}
 use Rattle.just_justfile.specs.Closed.{HeldRecipes, default_recipe, resolved_name, path_on}
 use Rattle.just_invocations.specs.Words.{IsPathWord, has_colon, is_empty}
 use Rattle.just_invocations.specs.Cause.{InvocationFault, unknown_recipe, unknown_submodule, expected_submodule, recipe_disabled, alias_disabled, module_absent, no_recipes, no_default, default_requires}
-use Rattle.just_invocations.specs.Meaning.{Meaning, a_module, a_recipe, disabled_recipe, disabled_alias, absent_module, nothing, meaning, path_text}
+use Rattle.just_invocations.specs.Meaning.{Meaning, a_module, a_recipe, disabled_recipe, disabled_alias, absent_module, nothing, meaning, module_path_text}
 
 -- the module's default, which needs no argument
 abbrev pub TakesDefault : HeldRecipes → Justfile → Recipe Dependency → Type 0
@@ -68,7 +68,7 @@ MeaningMisleads nothing On one false path place cause = cause ≡ unknown_recipe
 
 -- the path of a name in a module, from the root
 abbrev pub absolute_path_of : Justfile → Text → Text
-absolute_path_of here name = path_text (path_on (out-Justfile here).module_path name)
+absolute_path_of here name = module_path_text (path_on (out-Justfile here).module_path name)
 
 -- why the names lead from a module to no recipe, after those of `path`; `one` says that they are one word
 abbrev pub WordsMislead : Justfile → HeldRecipes → Justfile → Bool → Words → Words → InvocationFault → Type 0

@@ -24,11 +24,11 @@ pub data Meaning : Type 0 where
   nothing : Meaning
 
 -- the text of a path, and those of a set of paths, in order
-abbrev pub path_text : Modulepath → Text
-path_text path = text_of path.components path.spaced
+abbrev pub module_path_text : Modulepath → Text
+module_path_text path = text_of path.components path.spaced
 
 abbrev pub path_texts : BTreeSet Modulepath → List Text
-path_texts paths = map path_text paths.keys
+path_texts paths = map module_path_text paths.keys
 
 -- the modules that disable a recipe, or an alias, of the name
 abbrev pub disabling : List (Text × Disabled) → Text → Option (List Text)

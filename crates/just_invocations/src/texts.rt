@@ -2,7 +2,7 @@
 ghost use Rattle.std.specs.Prelude.{◌≡◌, IfOk, string_bytes};
 ghost use Rattle.just_names.specs.Texts.{separator_of, text_of, texts};
 ghost use Rattle.just_invocations.specs.Head.{absolute_path_of};
-ghost use Rattle.just_invocations.specs.Meaning.{path_text, path_texts};
+ghost use Rattle.just_invocations.specs.Meaning.{module_path_text, path_texts};
 
 use just_data::{Sequence, Text};
 use just_justfile::Justfile;
@@ -42,7 +42,7 @@ pub(crate) fn names_text(alloc: Global, names: &[&str], spaced: bool) -> Result<
 
 // The text of a path.
 fn path_text(alloc: Global, path: &Modulepath) -> Result<Text, AllocError>
-    ensures { IfOk result (λ text. text ≡ path_text path.now) }
+    ensures { IfOk result (λ text. text ≡ module_path_text path.now) }
 {
     Text::from_string(format!(in alloc; "{path}")?)
 }

@@ -16,7 +16,7 @@ use Rattle.just_names.specs.declared.number.Number.{Number}
 use Rattle.just_parts.specs.Needs.{same_number}
 use Rattle.just_run_layers.proofs.InteractionLemmas.{keeps-both, keeps-self, took-kept, took-steady, took-stop, took-then}
 use Rattle.just_run_layers.specs.Evaluation.{Inquiry}
-use Rattle.just_run_layers.specs.Host.{Answer, KeepsPromises, executed, kept}
+use Rattle.just_run_layers.specs.Host.{Answer, KeepsPromises, executed, kept_call}
 use Rattle.just_run_layers.specs.Interactions.{HasTrace, Log, both, executed_in}
 use Rattle.just_run_layers.specs.declared.calls.CommandCall.{CommandCall}
 use Rattle.just_run_layers.specs.declared.host.Entry.{Entry}
@@ -31,7 +31,7 @@ pub holds-none : (set : HashSet Number (BuildHasherDefault FoldHasher)) → IsEm
 holds-none set empty = fun_ext (λ n. ap (λ keys. list_any (same_number n) keys) empty)
 
 -- a call of a program executes nothing
-pub call-executes : (entries later : List Entry) (call : CommandCall) (o : Option Answer) → later ≡ entries ++ kept (entry.Command call) o → executed later ≡ executed entries
+pub call-executes : (entries later : List Entry) (call : CommandCall) (o : Option Answer) → later ≡ entries ++ kept_call (entry.Command call) o → executed later ≡ executed entries
 call-executes entries later call None is = ap executed (is ∙ append-nil entries)
 call-executes entries later call (Some a) is = ap executed is ∙ executed-append entries (entry.Command call ∷ []) ∙ append-nil (executed entries)
 

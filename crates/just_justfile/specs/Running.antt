@@ -12,9 +12,8 @@ use Rattle.just_parts.specs.Needs.{IsNumberIn, Needs, has_number, overridden_by}
 use Rattle.just_parts.specs.Reading.{IsEvaluationOrder, Reads}
 use Rattle.just_parts.specs.Scopes.{Scoped, scopes_of}
 use Rattle.just_parts.specs.Syntax.{SyntaxAnswers}
-use Rattle.just_recipe.specs.Grouping.{concatenated}
+use Rattle.just_recipe.specs.Recipes.{arguments_of}
 use Rattle.just_recipe.specs.declared.dependency.Dependency.{Dependency}
-use Rattle.just_recipe.specs.declared.dependency.DependencyArgument.{DependencyArgument}
 use Rattle.just_recipe.specs.declared.recipe.Recipe.{Recipe}
 use Rattle.just_table.specs.Entries.{find}
 use Rattle.just_justfile.specs.Closed.{IsRooted, StandsIn}
@@ -23,10 +22,6 @@ use Rattle.just_justfile.specs.declared.justfile.Justfile.{Justfile, out-Justfil
 -- the variables and the functions of a module
 abbrev pub known_by_tables : Justfile → Known
 known_by_tables j = sources (out-Justfile j).assignments (out-Justfile j).functions
-
--- the arguments of a dependency, one after another
-abbrev pub arguments_of : Dependency → List DependencyArgument
-arguments_of d = concatenated d.arguments
 
 -- A recipe reads a variable of a module: one of its expressions does, where the names that are hidden in its scope are left out.
 pub record IsReadBy (answers : SyntaxAnswers) (j : Justfile) (r : Recipe Dependency) (name : Text) : Type 0 where

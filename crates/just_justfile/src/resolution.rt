@@ -5,7 +5,7 @@ ghost use Rattle.just_names.specs.Name.{text_of_name};
 ghost use Rattle.just_table.specs.Entries.{find};
 ghost use Rattle.just_paths.specs.declared.modulepath.Modulepath.{Modulepath};
 ghost use Rattle.just_justfile.specs.Walks.{AreOrdered, AreModulesOrdered, end_of_names, inner_along, module_at, module_named, only, path_along, recipe_under, resolved_module, resolved_recipe};
-ghost use Rattle.just_justfile.specs.loops.Walks.{IsReached, absent_in};
+ghost use Rattle.just_justfile.specs.loops.Walks.{IsReached, absent_there};
 
 use crate::disabled::Disabled;
 use crate::justfile::{Justfile, RecipeKey};
@@ -75,7 +75,7 @@ fn is_absent<'run, 'src>(
     inside: Option<&'run Justfile<'src>>,
     name: &str,
 ) -> bool
-    ensures { result ≡ is_some (find name.now (absent_in absent.now (option_copied inside.entry))) }
+    ensures { result ≡ is_some (find name.now (absent_there absent.now (option_copied inside.entry))) }
 {
     match inside {
         Some(module) => module.absent_modules.contains_key(name),

@@ -11,11 +11,10 @@ use Rattle.just_names.specs.Texts.{Text, joined, text_of}
 use Rattle.just_names.specs.Token.{lexeme}
 use Rattle.just_names.specs.declared.number.Number.{Number}
 use Rattle.just_recipe.specs.RecipeTexts.{dependency_text, each_after, recipe_text}
-use Rattle.just_recipe.specs.Recipes.{find_number}
+use Rattle.just_recipe.specs.Recipes.{arguments_of, find_number}
 use Rattle.just_recipe.specs.declared.dependency.Dependency.{Dependency}
 use Rattle.just_recipe.specs.declared.recipe.Recipe.{Recipe}
 use Rattle.just_justfile.specs.Closed.{HeldRecipes, resolved_name}
-use Rattle.just_justfile.specs.Running.{arguments_of}
 use Rattle.just_justfile.specs.declared.justfile.Justfile.{Justfile, out-Justfile}
 use Rattle.just_listings.specs.Public.{own_recipes}
 

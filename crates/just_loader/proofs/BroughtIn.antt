@@ -7,7 +7,7 @@ use Rattle.just_parts.specs.Syntax.{SyntaxAnswers, AttributesNameParameters, Ite
 use Rattle.just_parts.specs.Items.{Ast, Item}
 use Rattle.just_ast_items.specs.declared.item.Item.TheVariants as item
 use Rattle.just_source.specs.declared.source.Source.{Source}
-use Rattle.just_loader.specs.loops.Reading.{IsBroughtIn, IsRead, IsReadBy, brought_in}
+use Rattle.just_loader.specs.loops.Reading.{IsBroughtIn, IsAstRead, IsAstReadBy, brought_in}
 
 same_bare : (source : Source) (i : Item) → bare_item (brought_in source i) ≡ bare_item i
 same_bare source (item.Recipe r) = refl
@@ -49,7 +49,7 @@ module _ (source : Source) (ast made : Ast) (is : IsBroughtIn source ast made) w
   bare_kept : bare_ast made ≡ bare_ast ast
   bare_kept = ap bare_ast is.rest ∙ ap (λ (xs : List Item). let a : Ast = record (ast_of_items xs) { unstable_features = ast.unstable_features; list_features = ast.list_features; warnings = ast.warnings } in a) (ap (map bare_item) is.items ∙ bare_items source ast.items)
 
-  pub read_as : (answers : SyntaxAnswers) (relative text : List ℕ) → IsRead answers relative text ast → IsReadBy answers relative text source made
+  pub read_as : (answers : SyntaxAnswers) (relative text : List ℕ) → IsAstRead answers relative text ast → IsAstReadBy answers relative text source made
   read_as answers relative text r = record {
     said = r.1.said ∙ ap Some (sym bare_kept);
     from = record {

@@ -24,7 +24,7 @@ use Rattle.just_names.specs.declared.name.Namepath.{Namepath}
 use Rattle.just_source.specs.declared.source.Source.{Source}
 use Rattle.just_loader.specs.Keys.{FileStep}
 use Rattle.just_loader.specs.Loaded.{entered, names_in, names_on, own_after}
-use Rattle.just_loader.specs.loops.Placed.{file_at, name_at, text_step}
+use Rattle.just_loader.specs.loops.Placed.{scanned_path, scanned_name, text_step}
 use Rattle.just_loader.specs.loops.Loading.{AreNodes, AreUnfolded, CameInSoFar, CameInWorlds, ComesNext, components_after, folder_after}
 use Rattle.just_loader.specs.loops.Numbering.{IsNamed}
 use Rattle.just_loader.specs.Reached.{World}
@@ -39,7 +39,7 @@ use Rattle.just_loader.proofs.Numberings.{get_cases, got, map_get, none_some, re
 pub file_is : (files : List ScannedFile) (k : ℕ) (f : ScannedFile) → k < length files → f ≡ get_or files k f → slice_get (paths_in files) k ≡ Some f.path
 file_is files k f h is = map_get (λ (x : ScannedFile). x.path) files k f (slice_get_read files (length files) k f refl h is)
 
-pub path_is : (scan : Scan) (k : ℕ) (f : ScannedFile) → k < length scan.files.items → f ≡ get_or scan.files.items k f → f.path ≡ file_at scan k
+pub path_is : (scan : Scan) (k : ℕ) (f : ScannedFile) → k < length scan.files.items → f ≡ get_or scan.files.items k f → f.path ≡ scanned_path scan k
 path_is scan k f h is = sym (get_or_from_slice_get (paths_in scan.files.items) k f.path [] (file_is scan.files.items k f h is))
 
 pub path_clean : (scan : Scan) (k : ℕ) (f : ScannedFile) → k < length scan.files.items → f ≡ get_or scan.files.items k f → All IsClean (paths_in scan.files.items) → IsClean f.path
@@ -62,11 +62,11 @@ one_name : (s : FileStep) (name : Name) → s.name ≡ Some name → names_on (s
 one_name s name e = ap (λ o. cons_option o []) e
 
 -- what a module's step gives
-pub module_next : (scan : Scan) (before : Source) (s : Step) (number : ℕ) (name : Name) (path : List ℕ) (r : Result Source Error) → s.enters ≡ Some number → IsNamed scan.names.items number s.tag name → path ≡ file_at scan s.target
+pub module_next : (scan : Scan) (before : Source) (s : Step) (number : ℕ) (name : Name) (path : List ℕ) (r : Result Source Error) → s.enters ≡ Some number → IsNamed scan.names.items number s.tag name → path ≡ scanned_path scan s.target
     → IfOk r (λ source. source.file_path ≡ before.file_path ++ path ∷ []) → IfOk r (λ source. source.import_offsets ≡ []) → IfOk r (λ source. source.namepath ≡ Some (submodule_path before.namepath name)) → IfOk r (λ source. source.path ≡ path)
     → IfOk r (λ source. source.working_directory ≡ folder_of path) → IfOk r (ComesNext scan before s)
 module_next scan before s number name path (Ok source) enters named is chain offsets namepath source_path folder =
-    let text : text_of_name name ≡ name_at scan number = known scan number (text_of_name name) named.0.0 in
+    let text : text_of_name name ≡ scanned_name scan number = known scan number (text_of_name name) named.0.0 in
     let own : (text_step scan s).name ≡ Some name = ap (option_and_then (λ (number : ℕ). slice_get scan.names.items s.tag)) enters ∙ named.1 in
     record {
       chain = chain ∙ ap (λ p. before.file_path ++ p ∷ []) is;
@@ -74,7 +74,7 @@ module_next scan before s number name path (Ok source) enters named is chain off
       components = ap components_of namepath ∙ module_components before.namepath name ∙ ap (λ t. components_of before.namepath ++ t ∷ []) text ∙ sym (ap (components_after scan (components_of before.namepath)) enters);
       names = ap names_in namepath ∙ module_names before.namepath name ∙ ap (λ ns. names_in before.namepath ++ ns) (sym (one_name (text_step scan s) name own));
       path = source_path ∙ is;
-      folder = folder ∙ ap folder_of is ∙ sym (ap (λ o. folder_after before.working_directory o (file_at scan s.target)) enters);
+      folder = folder ∙ ap folder_of is ∙ sym (ap (λ o. folder_after before.working_directory o (scanned_path scan s.target)) enters);
     }
 module_next scan before s number name path (Err e) enters named is chain offsets namepath source_path folder = tt
 
@@ -82,7 +82,7 @@ no_name : (s : FileStep) → s.name ≡ None → names_on (s ∷ []) ≡ []
 no_name s e = ap (λ o. cons_option o []) e
 
 -- what an import's step gives
-pub import_next : (scan : Scan) (before : Source) (s : Step) (path : List ℕ) (r : Result Source Error) → s.enters ≡ None → path ≡ file_at scan s.target
+pub import_next : (scan : Scan) (before : Source) (s : Step) (path : List ℕ) (r : Result Source Error) → s.enters ≡ None → path ≡ scanned_path scan s.target
     → IfOk r (λ source. source.file_path ≡ before.file_path ++ path ∷ []) → IfOk r (λ source. source.import_offsets ≡ before.import_offsets ++ s.offset ∷ []) → IfOk r (λ source. source.namepath ≡ before.namepath) → IfOk r (λ source. source.path ≡ path)
     → IfOk r (λ source. source.working_directory ≡ before.working_directory) → IfOk r (ComesNext scan before s)
 import_next scan before s path (Ok source) enters is chain offsets namepath source_path folder =
@@ -93,7 +93,7 @@ import_next scan before s path (Ok source) enters is chain offsets namepath sour
       components = ap components_of namepath ∙ sym (ap (components_after scan (components_of before.namepath)) enters);
       names = ap names_in namepath ∙ sym (ap (λ ns. names_in before.namepath ++ ns) (no_name (text_step scan s) own) ∙ append-nil (names_in before.namepath));
       path = source_path ∙ is;
-      folder = folder ∙ sym (ap (λ o. folder_after before.working_directory o (file_at scan s.target)) enters);
+      folder = folder ∙ sym (ap (λ o. folder_after before.working_directory o (scanned_path scan s.target)) enters);
     }
 import_next scan before s path (Err e) enters is chain offsets namepath source_path folder = tt
 
@@ -102,11 +102,11 @@ own_last : (own : List ℕ) (ss : List FileStep) (s : FileStep) → own_after ow
 own_last own [] s = refl
 own_last own (t ∷ ts) s = own_last (entered own t.enters t.to) ts s
 
-names_last : (scan : Scan) (path : List ℕ) (o : Option ℕ) → components_after scan (map (name_at scan) path) o ≡ map (name_at scan) (path_after path o)
+names_last : (scan : Scan) (path : List ℕ) (o : Option ℕ) → components_after scan (map (scanned_name scan) path) o ≡ map (scanned_name scan) (path_after path o)
 names_last scan path None = refl
-names_last scan path (Some number) = sym (map-append (name_at scan) path (number ∷ []))
+names_last scan path (Some number) = sym (map-append (scanned_name scan) path (number ∷ []))
 
-folder_last : (scan : Scan) (own path : List ℕ) (o : Option ℕ) → folder_after (folder_of own) o path ≡ folder_of (entered own (option_map (name_at scan) o) path)
+folder_last : (scan : Scan) (own path : List ℕ) (o : Option ℕ) → folder_after (folder_of own) o path ≡ folder_of (entered own (option_map (scanned_name scan) o) path)
 folder_last scan own path None = refl
 folder_last scan own path (Some number) = refl
 
@@ -116,12 +116,12 @@ came_next scan n s before source depth came next least = λ w is.
     let trail = map (text_step scan) n.trail in
     let last : trail ++ text_step scan s ∷ [] ≡ map (text_step scan) (n.trail ++ s ∷ []) = sym (map-append (text_step scan) n.trail (s ∷ [])) in
     record {
-      chain = next.chain ∙ ap (λ c. c ++ file_at scan s.target ∷ []) at.chain ∙ ap (λ c. w.root ∷ c) (sym (map-append (λ (x : FileStep). x.to) trail (text_step scan s ∷ [])) ∙ ap (map (λ (x : FileStep). x.to)) last);
+      chain = next.chain ∙ ap (λ c. c ++ scanned_path scan s.target ∷ []) at.chain ∙ ap (λ c. w.root ∷ c) (sym (map-append (λ (x : FileStep). x.to) trail (text_step scan s ∷ [])) ∙ ap (map (λ (x : FileStep). x.to)) last);
       offsets = next.offsets ∙ ap (λ o. offsets_after o s.offset s.enters) at.offsets;
       components = next.components ∙ ap (λ c. components_after scan c s.enters) at.components ∙ names_last scan n.path s.enters;
       names = next.names ∙ ap (λ ns. ns ++ names_on (text_step scan s ∷ [])) at.names ∙ sym (filter_map-append (λ (x : FileStep). x.name) trail (text_step scan s ∷ [])) ∙ ap names_on last;
       path = next.path;
-      folder = next.folder ∙ ap (λ f. folder_after f s.enters (file_at scan s.target)) at.folder ∙ folder_last scan (own_after w.root trail) (file_at scan s.target) s.enters
+      folder = next.folder ∙ ap (λ f. folder_after f s.enters (scanned_path scan s.target)) at.folder ∙ folder_last scan (own_after w.root trail) (scanned_path scan s.target) s.enters
           ∙ ap folder_of (sym (own_last w.root trail (text_step scan s)) ∙ ap (own_after w.root) last);
       depth = least_mapped w scan is (key (child n s)) depth least;
     }
@@ -214,11 +214,11 @@ module _ (w : World) (scan : Scan) (is : IsScan w scan) (us : List Unfolded) (ar
     pub is_root : u.origin ≡ None → n ≡ root_node 0
     is_root e = root_first (steps scan.rows.items) 0 ns (length sources) n nodes.0 here (subst (CameFrom (steps scan.rows.items) (take (length sources) ns) n) e told.origin)
 
-    pub came_root : (source : Source) (path : List ℕ) → u.origin ≡ None → path ≡ file_at scan u.node → source.file_path ≡ path ∷ [] → source.import_offsets ≡ [] → source.namepath ≡ None → source.path ≡ path → source.working_directory ≡ folder_of path
+    pub came_root : (source : Source) (path : List ℕ) → u.origin ≡ None → path ≡ scanned_path scan u.node → source.file_path ≡ path ∷ [] → source.import_offsets ≡ [] → source.namepath ≡ None → source.path ≡ path → source.working_directory ≡ folder_of path
         → CameInWorlds scan n (record source { file_depth = u.depth })
     came_root source path e path_is chain offsets namepath source_path folder =
         let root : n ≡ root_node 0 = is_root e in
-        let file : path ≡ file_at scan 0 = path_is ∙ ap (file_at scan) (told.node ∙ ap (λ (x : Node). x.node) root) in
+        let file : path ≡ scanned_path scan 0 = path_is ∙ ap (scanned_path scan) (told.node ∙ ap (λ (x : Node). x.node) root) in
         let at_root : CameInWorlds scan (root_node 0) (record source { file_depth = u.depth }) = λ v of. record {
           chain = chain ∙ ap (λ p. p ∷ []) (file ∙ root_at v scan of);
           offsets = offsets;

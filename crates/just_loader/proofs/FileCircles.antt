@@ -22,7 +22,7 @@ use Rattle.just_ast_items.specs.Edge.{Edge, Imports, Declares, edge_of}
 use Rattle.just_loader.specs.FileCircles.{ChainTo, at_root, and_next, BreaksCircle, leads_back}
 use Rattle.just_loader.specs.loops.FileCircles.{HasRows, FileLeadsOn, by_edge, by_edges}
 use Rattle.just_loader.specs.Keys.{FileStep, end_of_link, items_at, steps_by, steps_of_file}
-use Rattle.just_loader.specs.loops.Placed.{file_at, text_step}
+use Rattle.just_loader.specs.loops.Placed.{scanned_path, text_step}
 use Rattle.just_loader.specs.Links.{Link, Unlinked, To, AtFault, edge_link}
 use Rattle.just_loader.specs.Reached.{World, IsReachedFile, from_root, from_file, items_of_file, link, FileLeadsTo}
 use Rattle.just_errors.specs.Causes.{LeadsBack}
@@ -117,21 +117,21 @@ module _ (w : World) (scan : Scan) (is : IsScan w scan) where
   inside : (a : ℕ) (p : List ℕ) → slice_get paths a ≡ Some p → a < length scan.files.items
   inside a p e = omega (arith, slice_get_within paths a p e, length-map scan.files.items (λ (f : ScannedFile). f.path))
 
-  file_is : (a : ℕ) (p : List ℕ) → slice_get paths a ≡ Some p → file_at scan a ≡ p
+  file_is : (a : ℕ) (p : List ℕ) → slice_get paths a ≡ Some p → scanned_path scan a ≡ p
   file_is a p e = get_or_from_slice_get paths a p [] e
 
   -- a step leads from file to file
   edge_of_step : (a b : ℕ) (p q : List ℕ) → slice_get paths a ≡ Some p → slice_get paths b ≡ Some q → HasStep rows a b → FileLeadsTo w p q
   edge_of_step a b p q from to h =
       let s = from_map (λ (s : Step). s.target) b (steps rows a) (is_in b (map (λ (s : Step). s.target) (steps rows a)) h) in
-      let x = at w scan is a (inside a p from) in let f = file_at scan a in
+      let x = at w scan is a (inside a p from) in let f = scanned_path scan a in
       let i = from_flat (steps_in f) (text_step scan s.0) (items_at w f) (subst (In (text_step scan s.0)) (steps_here w scan is a (inside a p from)) (in_map (text_step scan) s.0 (steps rows a) s.1)) in
-      let edge : FileLeadsTo w f (file_at scan s.0.target) = record {
+      let edge : FileLeadsTo w f (scanned_path scan s.0.target) = record {
         item = i.0;
         has = (x.scanned.items, ap (items_of_file w) (sym x.path_at) ∙ x.scanned.parsed, contained i.0 x.scanned.items (subst (In i.0) (said w scan is a x) i.1));
         leads = link_of_step (edge_of i.0) (link w (folder_of f) i.0) (text_step scan s.0) i.2;
       } in
-      subst (λ f. FileLeadsTo w f q) (file_is a p from) (subst (FileLeadsTo w f) (ap (file_at scan) (sym s.2) ∙ file_is b q to) edge)
+      subst (λ f. FileLeadsTo w f q) (file_is a p from) (subst (FileLeadsTo w f) (ap (scanned_path scan) (sym s.2) ∙ file_is b q to) edge)
 
   -- an edge of a file that is there is a step
   step_of_edge : (a : ℕ) (p q : List ℕ) → slice_get paths a ≡ Some p → FileLeadsTo w p q → (b : ℕ) × (slice_get paths b ≡ Some q) × HasStep rows a b

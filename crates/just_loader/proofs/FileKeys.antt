@@ -14,7 +14,7 @@ use Rattle.just_names.specs.declared.name.Name.{Name}
 use Rattle.just_loader.specs.Keys.{FileKey, FileKeySteps, FileStep, IsKey, IsLeastFileDepth, root_file_key, steps_of_file}
 use Rattle.just_loader.specs.loops.Loading.{AreUnfolded}
 use Rattle.just_loader.specs.loops.Numbering.{IsNamed}
-use Rattle.just_loader.specs.loops.Placed.{file_at, name_at, text_step}
+use Rattle.just_loader.specs.loops.Placed.{scanned_path, scanned_name, text_step}
 use Rattle.just_loader.specs.Reached.{World}
 use Rattle.just_loader.specs.loops.Scanned.{IsScan, paths_in}
 use Rattle.just_loader.specs.declared.scan_result.Scan.{Scan}
@@ -24,7 +24,7 @@ use Rattle.just_loader.proofs.Numberings.{got, read_at}
 
 -- the key of a file, by texts
 abbrev pub file_key : Scan → Key → FileKey
-file_key scan k = record { path = map (name_at scan) k.path; node = file_at scan k.node }
+file_key scan k = record { path = map (scanned_name scan) k.path; node = scanned_path scan k.node }
 
 -- the node and the numbers of a key have texts
 pub record Stands (scan : Scan) (k : Key) : Type 0 where
@@ -68,7 +68,7 @@ module _ (w : World) (scan : Scan) (is : IsScan w scan) where
   pub root_inside : inside 0
   root_inside = omega (arith, length-map scan.files.items (λ (f : ScannedFile). f.path), slice_get_within (paths_in scan.files.items) 0 w.root is.root)
 
-  pub root_at : file_at scan 0 ≡ w.root
+  pub root_at : scanned_path scan 0 ≡ w.root
   root_at = get_or_from_slice_get (paths_in scan.files.items) 0 w.root [] is.root
 
   root_is : root_file_key w ≡ file_key scan (root_key 0)
@@ -97,11 +97,11 @@ module _ (w : World) (scan : Scan) (is : IsScan w scan) where
   pub to_steps : (k : Key) (d : ℕ) → KeySteps S (root_key 0) k d → FileKeySteps w (root_file_key w) (file_key scan k) d
   to_steps k d way =
       subst (λ root. FileKeySteps w root (file_key scan k) d) (sym root_is)
-      (steps_mapped target enters (λ (s : FileStep). s.to) (λ (s : FileStep). s.enters) S (steps_of_file w) (file_at scan) (name_at scan) (text_step scan) (λ s. refl) (λ s. refl) inside (steps_here w scan is) step_inside way root_inside)
+      (steps_mapped target enters (λ (s : FileStep). s.to) (λ (s : FileStep). s.enters) S (steps_of_file w) (scanned_path scan) (scanned_name scan) (text_step scan) (λ s. refl) (λ s. refl) inside (steps_here w scan is) step_inside way root_inside)
 
   pub from_steps : (k : FileKey) (d : ℕ) → FileKeySteps w (root_file_key w) k d → (l : Key) × KeySteps S (root_key 0) l d × (file_key scan l ≡ k)
   from_steps k d way =
-      steps_back target enters (λ (s : FileStep). s.to) (λ (s : FileStep). s.enters) S (steps_of_file w) (file_at scan) (name_at scan) (text_step scan) (λ s. refl) (λ s. refl) inside (steps_here w scan is) step_inside way (root_key 0) root_is root_inside
+      steps_back target enters (λ (s : FileStep). s.to) (λ (s : FileStep). s.enters) S (steps_of_file w) (scanned_path scan) (scanned_name scan) (text_step scan) (λ s. refl) (λ s. refl) inside (steps_here w scan is) step_inside way (root_key 0) root_is root_inside
 
   -- what the root's key leads to are keys of files, and there are no others
   pub to_key : (k : Key) → IsReachedKey S 0 k → IsKey w (file_key scan k)
@@ -110,13 +110,13 @@ module _ (w : World) (scan : Scan) (is : IsScan w scan) where
   pub from_key : (k : FileKey) → IsKey w k → (l : Key) × IsReachedKey S 0 l × (file_key scan l ≡ k)
   from_key k r = let b = from_steps k r.0 r.1 in (b.0, (r.0, b.1), b.2)
 
-  same_paths : (p q : List ℕ) → ((n : ℕ) → In n p → IsKnown scan n) → ((n : ℕ) → In n q → IsKnown scan n) → map (name_at scan) p ≡ map (name_at scan) q → p ≡ q
+  same_paths : (p q : List ℕ) → ((n : ℕ) → In n p → IsKnown scan n) → ((n : ℕ) → In n q → IsKnown scan n) → map (scanned_name scan) p ≡ map (scanned_name scan) q → p ≡ q
   same_paths [] [] a b e = refl
   same_paths [] (y ∷ q) a b e = cc
   same_paths (x ∷ p) [] a b e = cc
   same_paths (x ∷ p) (y ∷ q) a b e =
-      let first : name_at scan x ≡ name_at scan y = cc in
-      let rest : map (name_at scan) p ≡ map (name_at scan) q = cc in
+      let first : scanned_name scan x ≡ scanned_name scan y = cc in
+      let rest : map (scanned_name scan) p ≡ map (scanned_name scan) q = cc in
       let p_first = a x (inl refl) in
       let q_first = b y (inl refl) in
       let same : x ≡ y = omega (arith, p_first.1 y (q_first.0 ∙ ap Some (sym first)), q_first.1 x (p_first.0 ∙ ap Some first)) in
@@ -126,8 +126,8 @@ module _ (w : World) (scan : Scan) (is : IsScan w scan) where
   pub same_keys : (k l : Key) → IsReachedKey S 0 k → IsReachedKey S 0 l → file_key scan k ≡ file_key scan l → k ≡ l
   same_keys k l r q e =
       let a = stands r.1 in let b = stands q.1 in
-      let file : file_at scan k.node ≡ file_at scan l.node = ap (λ (x : FileKey). x.node) e in
-      let node : k.node ≡ l.node = is.once k.node l.node (file_at scan k.node) (at w scan is k.node a.inside).path_is ((at w scan is l.node b.inside).path_is ∙ ap Some (sym file)) in
+      let file : scanned_path scan k.node ≡ scanned_path scan l.node = ap (λ (x : FileKey). x.node) e in
+      let node : k.node ≡ l.node = is.once k.node l.node (scanned_path scan k.node) (at w scan is k.node a.inside).path_is ((at w scan is l.node b.inside).path_is ∙ ap Some (sym file)) in
       let path : k.path ≡ l.path = same_paths k.path l.path a.known b.known (ap (λ (x : FileKey). x.path) e) in
       λ j. record { path = path j; node = node j }
 

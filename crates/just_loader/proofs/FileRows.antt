@@ -18,22 +18,22 @@ use Rattle.just_names.specs.declared.name.Name.{Name}
 use Rattle.just_parts.specs.Items.{Item}
 use Rattle.just_loader.specs.Keys.{FileStep, end_of_link, items_at, steps_by, steps_of_file}
 use Rattle.just_loader.specs.Links.{Link, Unlinked, To, AtFault}
-use Rattle.just_loader.specs.loops.Placed.{file_at, name_at, text_step}
+use Rattle.just_loader.specs.loops.Placed.{scanned_path, scanned_name, text_step}
 use Rattle.just_loader.specs.loops.Numbering.{IsFirstAt, IsNamed, texts_of}
 use Rattle.just_loader.specs.Reached.{World, link}
-use Rattle.just_loader.specs.loops.Scanned.{IsPlaceOf, ArePlacesOf, IsStepTo, IsStepOf, AreSteps, EntersName, IsScan, IsScanned, paths_in}
+use Rattle.just_loader.specs.loops.Scanned.{IsLinkPlace, ArePlacesOf, IsStepTo, IsStepOf, AreSteps, EntersName, IsScan, IsScanned, paths_in}
 use Rattle.just_loader.specs.declared.scan_result.Scan.{Scan}
 use Rattle.just_loader.specs.declared.scan_result.ScannedFile.{ScannedFile}
 use Rattle.just_loader.proofs.Numberings.{map_get, read_at}
 use Rattle.just_loader.proofs.WholeScans.{one_target, row_at}
 
 -- where links lead
-pub no_end : (paths : List Text) (l : Link) → IsPlaceOf paths l None → end_of_link l ≡ []
+pub no_end : (paths : List Text) (l : Link) → IsLinkPlace paths l None → end_of_link l ≡ []
 no_end paths Unlinked h = refl
 no_end paths (To p) h = absurd h
 no_end paths (AtFault c) h = refl
 
-pub one_end : (paths : List Text) (l : Link) (place : ℕ) → IsPlaceOf paths l (Some place) → end_of_link l ≡ get_or paths place [] ∷ []
+pub one_end : (paths : List Text) (l : Link) (place : ℕ) → IsLinkPlace paths l (Some place) → end_of_link l ≡ get_or paths place [] ∷ []
 one_end paths Unlinked place h = absurd h
 one_end paths (To p) place h = ap (λ x. x ∷ []) (sym (get_or_from_slice_get paths place p [] h))
 one_end paths (AtFault c) place h = absurd h
@@ -50,9 +50,9 @@ module _ (scan : Scan) where
 
   -- a number is that of a text
   abbrev pub IsKnown : ℕ → Type 0
-  IsKnown number = IsFirstAt texts (name_at scan number) number
+  IsKnown number = IsFirstAt texts (scanned_name scan number) number
 
-  pub known : (number : ℕ) (text : Text) → slice_get texts number ≡ Some text → text ≡ name_at scan number
+  pub known : (number : ℕ) (text : Text) → slice_get texts number ≡ Some text → text ≡ scanned_name scan number
   known number text e = sym (get_or_from_slice_get texts number text [] e)
 
   -- what a step enters has one
@@ -64,14 +64,14 @@ module _ (scan : Scan) where
   no_steps (Some (Declares name literal optional)) l at = sym (ap (map (λ path. let s : FileStep = record { to = path; offset = 0; enters = Some (text_of_name name); name = Some name } in s)) at)
   no_steps None l at = refl
 
-  edge_steps : (e : Option Edge) (l : Link) (place : ℕ) (row : List Step) → end_of_link l ≡ file_at scan place ∷ [] → IsStepTo names place e row → map (text_step scan) row ≡ steps_by e l
+  edge_steps : (e : Option Edge) (l : Link) (place : ℕ) (row : List Step) → end_of_link l ≡ scanned_path scan place ∷ [] → IsStepTo names place e row → map (text_step scan) row ≡ steps_by e l
   edge_steps (Some (Imports literal optional)) l place row at is = ap (map (text_step scan)) is ∙ sym (ap (map (λ path. let s : FileStep = record { to = path; offset = literal.token.offset; enters = None; name = None } in s)) at)
   edge_steps (Some (Declares name literal optional)) l place row at is =
-      ap (map (text_step scan)) is.3 ∙ (λ j. let s : FileStep = record { to = file_at scan place; offset = 0; enters = Some (sym (known is.0 (text_of_name name) is.2.0.0) j); name = is.2.1 j } in s ∷ [])
+      ap (map (text_step scan)) is.3 ∙ (λ j. let s : FileStep = record { to = scanned_path scan place; offset = 0; enters = Some (sym (known is.0 (text_of_name name) is.2.0.0) j); name = is.2.1 j } in s ∷ [])
       ∙ sym (ap (map (λ path. let s : FileStep = record { to = path; offset = 0; enters = Some (text_of_name name); name = Some name } in s)) at)
   edge_steps None l place row at is = ap (map (text_step scan)) is
 
-  item_steps : (i : Item) (l : Link) (t : Option ℕ) (row : List Step) → IsPlaceOf paths l t → IsStepOf names i t row → map (text_step scan) row ≡ steps_by (edge_of i) l
+  item_steps : (i : Item) (l : Link) (t : Option ℕ) (row : List Step) → IsLinkPlace paths l t → IsStepOf names i t row → map (text_step scan) row ≡ steps_by (edge_of i) l
   item_steps i l None row p is = ap (map (text_step scan)) is ∙ no_steps (edge_of i) l (no_end paths l p)
   item_steps i l (Some place) row p is = edge_steps (edge_of i) l place row (one_end paths l place p) is
 
@@ -108,8 +108,8 @@ module _ (w : World) (scan : Scan) (is : IsScan w scan) where
     pub row : Vec Step Global
     pub file_is : slice_get scan.files.items a ≡ Some file
     pub row_is : slice_get scan.rows.items a ≡ Some row
-    pub path_is : slice_get (paths_in scan.files.items) a ≡ Some (file_at scan a)
-    pub path_at : file.path ≡ file_at scan a
+    pub path_is : slice_get (paths_in scan.files.items) a ≡ Some (scanned_path scan a)
+    pub path_at : file.path ≡ scanned_path scan a
     pub scanned : IsScanned w (paths_in scan.files.items) scan.names.items file row.items
 
   pub at : (a : ℕ) → a < length scan.files.items → At a
@@ -117,7 +117,7 @@ module _ (w : World) (scan : Scan) (is : IsScan w scan) where
       let file = read_at scan.files.items a h in
       let row = read_at scan.rows.items a (omega (arith, is.count)) in
       let path = map_get (λ (f : ScannedFile). f.path) scan.files.items a file.0 file.1 in
-      let same : file_at scan a ≡ file.0.path = get_or_from_slice_get (paths_in scan.files.items) a file.0.path [] path in
+      let same : scanned_path scan a ≡ file.0.path = get_or_from_slice_get (paths_in scan.files.items) a file.0.path [] path in
       record {
         file = file.0;
         row = row.0;
@@ -128,11 +128,11 @@ module _ (w : World) (scan : Scan) (is : IsScan w scan) where
         scanned = is.scanned a file.0 row.0 file.1 row.1;
       }
 
-  pub said : (a : ℕ) (x : At a) → items_at w (file_at scan a) ≡ x.scanned.items
+  pub said : (a : ℕ) (x : At a) → items_at w (scanned_path scan a) ≡ x.scanned.items
   said a x = ap (λ p. items_at w p) (sym x.path_at) ∙ ap (λ o. unwrap_or o []) x.scanned.parsed
 
   -- the steps from a file
-  pub steps_here : (a : ℕ) → a < length scan.files.items → map (text_step scan) (steps scan.rows.items a) ≡ steps_of_file w (file_at scan a)
+  pub steps_here : (a : ℕ) → a < length scan.files.items → map (text_step scan) (steps scan.rows.items a) ≡ steps_of_file w (scanned_path scan a)
   steps_here a h =
       let x = at a h in
       ap (map (text_step scan)) (steps_at scan.rows.items a x.row x.row_is)

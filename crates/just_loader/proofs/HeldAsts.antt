@@ -10,7 +10,7 @@ use Rattle.just_parts.specs.Asts.{AstKey, same_ast_key}
 use Rattle.just_parts.proofs.AstKeys.{key_same}
 use Rattle.just_loader.specs.Loaded.{AreToldApart}
 use Rattle.just_loader.specs.loops.Reading.{ShareNoNumbers}
-use Rattle.just_loader.specs.loops.Placed.{file_at}
+use Rattle.just_loader.specs.loops.Placed.{scanned_path}
 use Rattle.just_loader.specs.loops.Parsed.{AreKeyed, AreHeld, text_key}
 use Rattle.just_loader.specs.loops.Scanned.{paths_in}
 use Rattle.just_loader.specs.declared.scan_result.Scan.{Scan}
@@ -40,7 +40,7 @@ next_inside scan nodes asts left rest table last keyed held e = omega (arith, ke
 
 -- one more node is held
 held_more : (scan : Scan) (nodes : List Unfolded) (asts left rest : List Ast) (old new : AstKey → Option Ast) (here : AstKey) (u : Unfolded) (last : Ast) → AreKeyed scan nodes asts → HeldFrom scan nodes asts left old → left ≡ rest ++ last ∷ []
-    → slice_get nodes (length rest) ≡ Some u → here.0 ≡ last.module_path → here.1 ≡ file_at scan u.node → ((key : AstKey) → new key ≡ cond (same_ast_key here key) (Some last) (old key)) → HeldFrom scan nodes asts rest new
+    → slice_get nodes (length rest) ≡ Some u → here.0 ≡ last.module_path → here.1 ≡ scanned_path scan u.node → ((key : AstKey) → new key ≡ cond (same_ast_key here key) (Some last) (old key)) → HeldFrom scan nodes asts rest new
 held_more scan nodes asts left rest old new here u last keyed held e at path file put =
     let front : asts ≡ (rest ++ last ∷ []) ++ held.front.0 = held.front.1 ∙ ap (λ xs. xs ++ held.front.0) e in
     let to : slice_get asts (length rest) ≡ Some last = ap (λ xs. slice_get xs (length rest)) front ∙ get_more (rest ++ last ∷ []) held.front.0 (length rest) last (get_last rest last) in
@@ -81,7 +81,7 @@ module _ (scan : Scan) (nodes : List Unfolded) (asts left rest : List Ast) (old 
   held_next new here file at path named put =
       let files = scan.files.items in
       let there : slice_get files u.node ≡ Some file = slice_get_read files (length files) u.node file refl node_inside at in
-      let same : file_at scan u.node ≡ file.path = get_or_from_slice_get (paths_in files) u.node file.path [] (map_get (λ (f : ScannedFile). f.path) files u.node file there) in
+      let same : scanned_path scan u.node ≡ file.path = get_or_from_slice_get (paths_in files) u.node file.path [] (map_get (λ (f : ScannedFile). f.path) files u.node file there) in
       held_more scan nodes asts left rest old new here u last keyed held e (ap (slice_get nodes) (sym is) ∙ next_there) path (named ∙ sym same) put
 
 module _ (scan : Scan) (nodes : List Unfolded) (asts : List Ast) (table : AstKey → Option Ast) (held : AreHeld scan nodes asts table) where

@@ -19,7 +19,7 @@ use Rattle.just_names.specs.Texts.{Text}
 use Rattle.just_parts.specs.Items.{Ast}
 use Rattle.just_loader.specs.Keys.{AreFirstFiles, FileNode, FileStep, ast_key, steps_of_file}
 use Rattle.just_loader.specs.Loaded.{IsAstOf, IsLoaded, at_first}
-use Rattle.just_loader.specs.loops.Placed.{at_first_places, file_at, file_node, key_at, name_at, text_step}
+use Rattle.just_loader.specs.loops.Placed.{at_first_places, scanned_path, file_node, key_at, scanned_name, text_step}
 use Rattle.just_loader.specs.loops.Loading.{AreParsed, KeepsLaws}
 use Rattle.just_loader.specs.loops.Parsed.{AreHeld, relative_at}
 use Rattle.just_loader.specs.Reached.{World, relative_to_root}
@@ -62,8 +62,8 @@ module _ (w : World) (scan : Scan) (is : IsScan w scan) where
   abbrev Is : Node → Type 0
   Is n = IsReachedKey (steps scan.rows.items) 0 (key n)
 
-  files_apart : (a b : ℕ) → a < length scan.files.items → b < length scan.files.items → file_at scan a ≡ file_at scan b → a ≡ b
-  files_apart a b h g e = is.once a b (file_at scan a) (at w scan is a h).path_is ((at w scan is b g).path_is ∙ ap Some (sym e))
+  files_apart : (a b : ℕ) → a < length scan.files.items → b < length scan.files.items → scanned_path scan a ≡ scanned_path scan b → a ≡ b
+  files_apart a b h g e = is.once a b (scanned_path scan a) (at w scan is a h).path_is ((at w scan is b g).path_is ∙ ap Some (sym e))
 
   nodes_apart : (a b : Node) → Is a → Is b → key_of (file_node scan a) ≡ key_of (file_node scan b) → key a ≡ key b
   nodes_apart a b p q e = same_keys w scan is (key a) (key b) p q e
@@ -74,7 +74,7 @@ module _ (w : World) (scan : Scan) (is : IsScan w scan) where
   are_first : (ns : List Node) → AreFirst (steps scan.rows.items) 0 ns → AreFirstFiles w (map (file_node scan) ns)
   are_first ns f =
       let unfolds = unfolds_mapped (λ (s : Step). s.target) (λ (s : Step). s.offset) (λ (s : Step). s.enters) (λ (s : FileStep). s.to) (λ (s : FileStep). s.offset) (λ (s : FileStep). s.enters)
-      (steps scan.rows.items) (steps_of_file w) (file_at scan) (name_at scan) (text_step scan) (λ s. refl) (λ s. refl) (λ s. refl) (λ a. a < length scan.files.items) (steps_here w scan is) (step_inside w scan is) f.1
+      (steps scan.rows.items) (steps_of_file w) (scanned_path scan) (scanned_name scan) (text_step scan) (λ s. refl) (λ s. refl) (λ s. refl) (λ a. a < length scan.files.items) (steps_here w scan is) (step_inside w scan is) f.1
       (λ n i. elim i [ inl e ↦ subst (λ (x : Node). x.node < length scan.files.items) (sym e) (root_inside w scan is) | inr z ↦ absurd z ]) in (
         map (file_node scan) f.0,
         subst (λ n. UnfoldsOf (λ (s : FileStep). s.to) (λ (s : FileStep). s.offset) (λ (s : FileStep). s.enters) (steps_of_file w) (n ∷ []) (map (file_node scan) f.0)) root_mapped unfolds,
@@ -93,9 +93,9 @@ is_loaded w scan is us whole asts parsed apart laws table held loaded paths =
     let u = from_map (λ (u : Unfolded). u.node) x us i in
     let at = placed us u.0 (contained u.0 us u.1) in
     subst (λ y. y < length scan.files.items) (sym u.2) (nodes_inside w scan is us whole at.0 u.0 at.1) in
-    let of_key : Key → Text = λ k. file_at scan k.node in
-    let files : map (file_at scan) (places_of us) ≡ map (λ (n : FileNode). n.node) (map (file_node scan) ns) =
-    map-map (file_at scan) (λ (u : Unfolded). u.node) us ∙ sym (map-map of_key unfolded_key us) ∙ ap (map of_key) told ∙ map-map of_key key ns ∙ sym (map-map (λ (n : FileNode). n.node) (file_node scan) ns) in
+    let of_key : Key → Text = λ k. scanned_path scan k.node in
+    let files : map (scanned_path scan) (places_of us) ≡ map (λ (n : FileNode). n.node) (map (file_node scan) ns) =
+    map-map (scanned_path scan) (λ (u : Unfolded). u.node) us ∙ sym (map-map of_key unfolded_key us) ∙ ap (map of_key) told ∙ map-map of_key key ns ∙ sym (map-map (λ (n : FileNode). n.node) (file_node scan) ns) in
     record {
       nodes = map (file_node scan) ns;
       first = are_first w scan is ns whole.first.1;
@@ -121,6 +121,6 @@ is_loaded w scan is us whole asts parsed apart laws table held loaded paths =
       priors = λ k ast e. (held_each scan us asts table held (KeepsLaws w.answers) laws k ast e).priors;
       attributes = λ k ast e. (held_each scan us asts table held (KeepsLaws w.answers) laws k ast e).attributes;
       constants = λ k ast e. (held_each scan us asts table held (KeepsLaws w.answers) laws k ast e).constants;
-      loaded_is = paths ∙ relative_paths w scan is (places_of us) inside ∙ sym (map-map (relative_to_root w) (file_at scan) (at_first_places (places_of us)))
-          ∙ ap (map (relative_to_root w)) (first_mapped (file_at scan) (λ a. a < length scan.files.items) (files_apart w scan is) (places_of us) inside ∙ ap at_first files);
+      loaded_is = paths ∙ relative_paths w scan is (places_of us) inside ∙ sym (map-map (relative_to_root w) (scanned_path scan) (at_first_places (places_of us)))
+          ∙ ap (map (relative_to_root w)) (first_mapped (scanned_path scan) (λ a. a < length scan.files.items) (files_apart w scan is) (places_of us) inside ∙ ap at_first files);
     }

@@ -10,7 +10,7 @@ use Rattle.just_errors.specs.Causes.{Cause, NoNumber, Keeps}
 use Rattle.just_loader.specs.FileCircles.{ChainTo, at_root, and_next, BreaksCircle, leads_back}
 use Rattle.just_loader.specs.loops.FileCircles.{FileLeadsOn, by_edge, by_edges}
 use Rattle.just_loader.specs.Keys.{IsKey, FileKey, spends_at, BreaksFiles, no_root, at_fault, in_circle, too_many}
-use Rattle.just_loader.specs.loops.Placed.{file_at}
+use Rattle.just_loader.specs.loops.Placed.{scanned_path}
 use Rattle.just_loader.specs.Reached.{World, IsReachedFile, FileLeadsTo, BreaksInScan}
 use Rattle.just_loader.specs.loops.Scanned.{IsScan}
 use Rattle.just_loader.specs.Sources.{text_at}
@@ -64,7 +64,7 @@ module _ (w : World) (scan : Scan) (is : IsScan w scan) (us : List Unfolded) (ke
   key_of u = file_key scan (unfolded_key u)
 
   abbrev takes : Unfolded → ℕ
-  takes u = spends_at w (file_at scan u.node)
+  takes u = spends_at w (scanned_path scan u.node)
 
   reached : (k : ℕ) (u : Unfolded) → slice_get us k ≡ Some u → IsReachedKey (steps scan.rows.items) 0 (unfolded_key u)
   reached k u e = (keys (unfolded_key u)).0 (got (map unfolded_key us) k (unfolded_key u) (map_get unfolded_key us k u e))

@@ -8,7 +8,7 @@ use Rattle.std.proofs.lemmas.List.Elements.{filter-append}
 use Rattle.std.proofs.lemmas.Option.{get_or_from_slice_get, slice_get_read}
 use Rattle.just_graph.specs.declared.unfolding.Unfolded.{Unfolded}
 use Rattle.just_graph.proofs.Members.{In, from_filter, in_left, in_right, in_cases}
-use Rattle.just_loader.specs.loops.Placed.{at_first_places, file_at}
+use Rattle.just_loader.specs.loops.Placed.{at_first_places, scanned_path}
 use Rattle.just_loader.specs.loops.Parsed.{relative_at}
 use Rattle.just_loader.specs.Reached.{World, relative_to_root}
 use Rattle.just_loader.specs.loops.Scanned.{IsScan, paths_in}
@@ -67,8 +67,8 @@ map_same f g (x ∷ xs) h = ap (λ y. y ∷ map f xs) (h x (inl refl)) ∙ ap (�
 
 -- the relative paths of a scan are those of its files
 pub relative_paths : (w : World) (scan : Scan) → IsScan w scan → (places : List ℕ) → ((x : ℕ) → In x places → x < length scan.files.items)
-    → map (relative_at scan) (at_first_places places) ≡ map (λ place. relative_to_root w (file_at scan place)) (at_first_places places)
-relative_paths w scan is places inside = map_same (relative_at scan) (λ place. relative_to_root w (file_at scan place)) (at_first_places places) (λ x i.
+    → map (relative_at scan) (at_first_places places) ≡ map (λ place. relative_to_root w (scanned_path scan place)) (at_first_places places)
+relative_paths w scan is places inside = map_same (relative_at scan) (λ place. relative_to_root w (scanned_path scan place)) (at_first_places places) (λ x i.
     let file = read_at scan.files.items x (inside x (first_in x places i)) in
     let row = read_at scan.rows.items x (omega (arith, is.count, inside x (first_in x places i))) in
     get_or_from_slice_get (map (λ (f : ScannedFile). f.relative) scan.files.items) x file.0.relative [] (map_get (λ (f : ScannedFile). f.relative) scan.files.items x file.0 file.1)

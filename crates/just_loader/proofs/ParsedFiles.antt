@@ -16,7 +16,7 @@ use Rattle.just_errors.specs.declared.error.Error.TheVariants as error
 use Rattle.just_parts.proofs.Edges.{same_attributes, same_priors}
 use Rattle.just_loader.specs.Keys.{spends_at}
 use Rattle.just_loader.specs.Loaded.{path_of_link, with_path}
-use Rattle.just_loader.specs.loops.Placed.{file_at}
+use Rattle.just_loader.specs.loops.Placed.{scanned_path}
 use Rattle.just_loader.specs.loops.Loading.{IsScanBy, StopsAt}
 use Rattle.just_loader.specs.Reached.{World, ast_of, items_said, link, relative_to_root}
 use Rattle.just_loader.specs.loops.Scanned.{ArePlacesOf, IsScanned, paths_in}
@@ -43,7 +43,7 @@ module _ (w : World) (scan : Scan) (answers : SyntaxAnswers) (by : IsScanBy w sc
   scanned : IsScanned w (paths_in scan.files.items) scan.names.items file row.0.items
   scanned = by.is_scan.scanned place file row.0 (slice_get_read scan.files.items (length scan.files.items) place file refl inside is) row.1
 
-  pub path : file.path ≡ file_at scan place
+  pub path : file.path ≡ scanned_path scan place
   path = path_is scan place file inside is
 
   module _ (relative text : List ℕ) (r : relative ≡ file.relative) (t : text ≡ file.text) where
@@ -55,11 +55,11 @@ module _ (w : World) (scan : Scan) (answers : SyntaxAnswers) (by : IsScanBy w sc
     takes = ap (λ o. unwrap_or (option_map (w.answers.spends (relative_to_root w file.path)) o) 0) scanned.text ∙ ap (λ x. w.answers.spends x file.text) (sym scanned.relative) ∙ ap (λ (a : SyntaxAnswers). a.spends file.relative file.text) by.same
         ∙ ap (λ x. answers.spends x file.text) (sym r) ∙ ap (answers.spends relative) (sym t)
 
-    pub spent_at : answers.spends relative text ≡ spends_at w (file_at scan place)
+    pub spent_at : answers.spends relative text ≡ spends_at w (scanned_path scan place)
     spent_at = sym takes ∙ ap (spends_at w) path
 
     -- it is not refused again
-    pub stops_at : (given : ℕ) (e : Error) → Refuses answers relative text given e → StopsAt given (spends_at w (file_at scan place)) e
+    pub stops_at : (given : ℕ) (e : Error) → Refuses answers relative text given e → StopsAt given (spends_at w (scanned_path scan place)) e
     stops_at given (error.Load e) h = h
     stops_at given (error.Compile e) h = let both : Some scanned.items ≡ None = sym scanned.parsed ∙ ap items_said (says ∙ h.says_nothing) in cc
     stops_at given (error.Invocation e) h = h
@@ -68,14 +68,14 @@ module _ (w : World) (scan : Scan) (answers : SyntaxAnswers) (by : IsScanBy w sc
     stops_at given error.Memory h = tt
 
     module _ (ast : Ast) (p : answers.parsed relative text ≡ Some (bare_ast ast)) where
-      pub places : ArePlacesOf (paths_in scan.files.items) (map (link w (folder_of (file_at scan place))) ast.items) file.targets.items
+      pub places : ArePlacesOf (paths_in scan.files.items) (map (link w (folder_of (scanned_path scan place))) ast.items) file.targets.items
       places =
           let same : scanned.items ≡ map bare_item ast.items = some_same (sym scanned.parsed ∙ ap items_said (says ∙ p)) in
           let bare = links_bare w.files w.home w.answers.enabled (folder_of file.path) ast.items in
           subst (λ f. ArePlacesOf (paths_in scan.files.items) (map (link w (folder_of f)) ast.items) file.targets.items) path
           (subst (λ ls. ArePlacesOf (paths_in scan.files.items) ls file.targets.items) (ap (map (link w (folder_of file.path))) same ∙ bare) scanned.targets)
 
-      pub said : ast_of w (file_at scan place) ≡ Some (bare_ast ast)
+      pub said : ast_of w (scanned_path scan place) ≡ Some (bare_ast ast)
       said = ap (ast_of w) (sym path) ∙ says ∙ p
 
 pub stopped_err : {A : Type 0} (r : Result A Error) (answers : SyntaxAnswers) (relative text : List ℕ) (given : ℕ) (P : Error → Type 0) → IfErr r (Refuses answers relative text given) → ((e : Error) → Refuses answers relative text given e → P e) → IfErr r P

@@ -13,8 +13,8 @@ use Rattle.just_errors.specs.declared.error.Error.TheVariants as error
 use Rattle.just_source.specs.declared.source.Source.{Source}
 use Rattle.just_loader.specs.Keys.{spends_at}
 use Rattle.just_loader.specs.Loaded.{IsAstOf}
-use Rattle.just_loader.specs.loops.Placed.{file_at, file_node}
-use Rattle.just_loader.specs.loops.Loading.{AreNodes, AreParsedSoFar, AreSources, IsSaid, IsScanBy, Stops, StopsAt, spent_by}
+use Rattle.just_loader.specs.loops.Placed.{scanned_path, file_node}
+use Rattle.just_loader.specs.loops.Loading.{AreNodes, AreParsedSoFar, AreNodeSources, IsSaid, IsScanBy, Stops, StopsAt, spent_by}
 use Rattle.just_loader.specs.Reached.{World}
 use Rattle.just_loader.specs.loops.Scanned.{IsScan}
 use Rattle.just_loader.specs.declared.scan_result.Scan.{Scan}
@@ -25,12 +25,12 @@ pub read : {A : Type 0} (xs : List A) (k : ℕ) (x : A) → k < length xs → x 
 read xs k x h is = slice_get_read xs (length xs) k x refl h is
 
 -- what a node's text says, as its file came in
-pub ast_at : (w : World) (scan : Scan) → IsScan w scan → (us : List Unfolded) (ns : List Node) (sources : List Source) → AreNodes scan us ns → AreSources scan ns sources → (k : ℕ) (u : Unfolded) (source : Source) (n : Node) (ast : Ast) → k < length us → u ≡ get_or us k u
-    → source ≡ get_or sources k source → slice_get ns k ≡ Some n → IsSaid w (file_at scan (get_or us k u).node) source ast → IsAstOf w (file_node scan n) ast
+pub ast_at : (w : World) (scan : Scan) → IsScan w scan → (us : List Unfolded) (ns : List Node) (sources : List Source) → AreNodes scan us ns → AreNodeSources scan ns sources → (k : ℕ) (u : Unfolded) (source : Source) (n : Node) (ast : Ast) → k < length us → u ≡ get_or us k u
+    → source ≡ get_or sources k source → slice_get ns k ≡ Some n → IsSaid w (scanned_path scan (get_or us k u).node) source ast → IsAstOf w (file_node scan n) ast
 ast_at w scan is us ns sources nodes are k u source n ast h is_u is_source here said =
     let told = nodes.1.tells k u n (read us k u h is_u) here in
     let same : (get_or us k u).node ≡ n.node = ap (λ (x : Unfolded). x.node) (sym is_u) ∙ told.node in
-    let s : IsSaid w (file_at scan n.node) source ast = subst (λ x. IsSaid w (file_at scan x) source ast) same said in
+    let s : IsSaid w (scanned_path scan n.node) source ast = subst (λ x. IsSaid w (scanned_path scan x) source ast) same said in
     record {
       source = source;
       came = are.came k n source here (read sources k source (omega (arith, h, are.count, nodes.1.count)) is_source) w is;
@@ -55,10 +55,10 @@ pub all_more : {A : Type 0} (P : A → Type 0) (old new : List A) (x : A) → Al
 all_more P old new x all one is = All-same P new (old ++ x ∷ []) is (All-push P old x all one)
 
 -- the numbers of one more text
-pub spent_more : (w : World) (scan : Scan) (us : List Unfolded) (k : ℕ) (d : Unfolded) → k < length us → spent_by w scan (take (k + 1) us) ≡ spent_by w scan (take k us) + spends_at w (file_at scan (get_or us k d).node)
-spent_more w scan us k d h = sum_by_more (λ (u : Unfolded). spends_at w (file_at scan u.node)) us k d h
+pub spent_more : (w : World) (scan : Scan) (us : List Unfolded) (k : ℕ) (d : Unfolded) → k < length us → spent_by w scan (take (k + 1) us) ≡ spent_by w scan (take k us) + spends_at w (scanned_path scan (get_or us k d).node)
+spent_more w scan us k d h = sum_by_more (λ (u : Unfolded). spends_at w (scanned_path scan u.node)) us k d h
 
-pub stops_at_last : (w : World) (scan : Scan) (us : List Unfolded) (k : ℕ) (d : Unfolded) (first given : ℕ) (e : Error) → k < length us → given ≤ first + spent_by w scan (take k us) → StopsAt given (spends_at w (file_at scan (get_or us k d).node)) e → Stops w scan us first e
+pub stops_at_last : (w : World) (scan : Scan) (us : List Unfolded) (k : ℕ) (d : Unfolded) (first given : ℕ) (e : Error) → k < length us → given ≤ first + spent_by w scan (take k us) → StopsAt given (spends_at w (scanned_path scan (get_or us k d).node)) e → Stops w scan us first e
 stops_at_last w scan us k d first given (error.Load e) h is s = s
 stops_at_last w scan us k d first given (error.Compile e) h is s = s
 stops_at_last w scan us k d first given (error.Invocation e) h is s = s

@@ -6,7 +6,7 @@ use Rattle.std.proofs.lemmas.Option.{slice_get_within}
 use Rattle.just_graph.proofs.Members.{In, is_in}
 use Rattle.just_parts.specs.Syntax.{SyntaxAnswers, AreRising, numbers_of_items}
 use Rattle.just_parts.specs.Items.{Ast}
-use Rattle.just_loader.specs.loops.Reading.{AreApartBelow, AreRead, AreReadOf, GoesOn, IsRead, TakesText, is_read, spent_on, takes, was_read}
+use Rattle.just_loader.specs.loops.Reading.{AreApartBelow, AreRead, AreReadOf, GoesOn, IsAstRead, TakesText, is_read, spent_on, takes_numbers, was_read}
 use Rattle.just_loader.specs.declared.texts.ReadTexts.{ReadTexts}
 use Rattle.just_loader.specs.declared.scan_result.ScannedFile.{ScannedFile}
 use Rattle.just_loader.proofs.Numberings.{get_cases, none_some, some_same}
@@ -126,7 +126,7 @@ none_read answers files texts none given = record {
 
 -- the numbers of one more file
 pub spent_more : (answers : SyntaxAnswers) (files : List ScannedFile) (asts : List (Option Ast)) (file : ScannedFile) (ast : Ast) → length asts ≡ length files
-    → spent_on answers (files ++ file ∷ []) (asts ++ Some ast ∷ []) ≡ spent_on answers files asts + takes answers file
+    → spent_on answers (files ++ file ∷ []) (asts ++ Some ast ∷ []) ≡ spent_on answers files asts + takes_numbers answers file
 spent_more answers [] [] file ast e = omega arith
 spent_more answers [] (a ∷ asts) file ast e = absurd (omega (arith, e))
 spent_more answers (f ∷ files) [] file ast e = absurd (omega (arith, e))
@@ -144,7 +144,7 @@ read_more answers files more old new file ast so count on is asts few = record {
     ]
     | inr last ↦ elim (get_cases files file f k (ap (λ xs. slice_get xs k) (sym is) ∙ e)) [
       | inl before ↦ absurd (omega (arith, last.0, count, slice_get_within files k f before))
-      | inr both ↦ subst (λ (x : ScannedFile). IsRead answers x.relative x.text a) both.1 (subst (IsRead answers file.relative file.text) (some_same last.1) on.read)
+      | inr both ↦ subst (λ (x : ScannedFile). IsAstRead answers x.relative x.text a) both.1 (subst (IsAstRead answers file.relative file.text) (some_same last.1) on.read)
     ]
   ];
   apart = apart_more old.asts.items new.asts.items ast old.numerator new.numerator so.apart on.rising asts;
@@ -160,21 +160,21 @@ read_on answers files more old new file (Some ast) b e h so count on is asts few
 
 -- those of one that is taken
 pub spent_less : (answers : SyntaxAnswers) (files : List ScannedFile) (asts : List (Option Ast)) (p : ℕ) (file : ScannedFile) (ast : Ast) → slice_get files p ≡ Some file → slice_get asts p ≡ Some (Some ast)
-    → spent_on answers files asts ≡ spent_on answers files (set asts p None) + takes answers file
+    → spent_on answers files asts ≡ spent_on answers files (set asts p None) + takes_numbers answers file
 spent_less answers [] asts p file ast e h = absurd (none_some e)
 spent_less answers (f ∷ files) [] p file ast e h = absurd (none_some h)
 spent_less answers (f ∷ files) (None ∷ asts) zero file ast e h = absurd (none_some (some_same h))
-spent_less answers (f ∷ files) (Some a ∷ asts) zero file ast e h = omega (arith, ap (takes answers) (some_same e))
+spent_less answers (f ∷ files) (Some a ∷ asts) zero file ast e h = omega (arith, ap (takes_numbers answers) (some_same e))
 spent_less answers (f ∷ files) (None ∷ asts) (suc p) file ast e h = spent_less answers files asts p file ast e h
 spent_less answers (f ∷ files) (Some a ∷ asts) (suc p) file ast e h = omega (arith, spent_less answers files asts p file ast e h)
 
 -- the next text
 module _ (answers : SyntaxAnswers) (files : List ScannedFile) (old new : ReadTexts) (place : ℕ) (file : ScannedFile) (here : slice_get files place ≡ Some file) where
-  pub each_next : (ns : List ℕ) → TakesText place (takes answers file) old new ns → AreReadOf answers files old.asts.items → AreReadOf answers files new.asts.items
+  pub each_next : (ns : List ℕ) → TakesText place (takes_numbers answers file) old new ns → AreReadOf answers files old.asts.items → AreReadOf answers files new.asts.items
   each_next ns (was_read was at same left given) each = λ k f ast e h. each k f ast e (still old.asts.items place k ast (subst (λ xs. slice_get xs k ≡ Some (Some ast)) left h)).0
   each_next ns (is_read same rises spent) each = λ k f ast e h. each k f ast e (subst (λ xs. slice_get xs k ≡ Some (Some ast)) same h)
 
-  pub apart_next : (asts more : List Ast) (ast : Ast) → more ≡ asts ++ ast ∷ [] → TakesText place (takes answers file) old new (numbers_of_items ast.items)
+  pub apart_next : (asts more : List Ast) (ast : Ast) → more ≡ asts ++ ast ∷ [] → TakesText place (takes_numbers answers file) old new (numbers_of_items ast.items)
       → AreApartBelow (old.asts.items ++ map Some asts) old.numerator → AreApartBelow (new.asts.items ++ map Some more) new.numerator
   apart_next asts more ast is (was_read was at same left given) so =
       let last : map Some more ≡ map Some asts ++ Some ast ∷ [] = ap (map Some) is ∙ map-append Some asts (ast ∷ []) in
@@ -189,10 +189,10 @@ module _ (answers : SyntaxAnswers) (files : List ScannedFile) (old new : ReadTex
       ap (λ xs. xs ++ map Some more) same ∙ ap (λ xs. old.asts.items ++ xs) last ∙ sym (append_assoc old.asts.items (map Some asts) (Some ast ∷ [])) in
       apart_more (old.asts.items ++ map Some asts) (new.asts.items ++ map Some more) ast old.numerator new.numerator so rises all
 
-  pub spent_next : (ns : List ℕ) (n : ℕ) → TakesText place (takes answers file) old new ns → old.numerator ≡ spent_on answers files old.asts.items + n → new.numerator ≡ spent_on answers files new.asts.items + (n + takes answers file)
+  pub spent_next : (ns : List ℕ) (n : ℕ) → TakesText place (takes_numbers answers file) old new ns → old.numerator ≡ spent_on answers files old.asts.items + n → new.numerator ≡ spent_on answers files new.asts.items + (n + takes_numbers answers file)
   spent_next ns n (was_read was at same left given) h = omega (arith, given, h, ap (spent_on answers files) left, spent_less answers files old.asts.items place file was here at)
   spent_next ns n (is_read same rises spent) h = omega (arith, spent, h, ap (spent_on answers files) same)
 
-  pub less_next : (ns : List ℕ) → TakesText place (takes answers file) old new ns → spent_on answers files new.asts.items ≤ spent_on answers files old.asts.items
+  pub less_next : (ns : List ℕ) → TakesText place (takes_numbers answers file) old new ns → spent_on answers files new.asts.items ≤ spent_on answers files old.asts.items
   less_next ns (was_read was at same left given) = omega (arith, ap (spent_on answers files) left, spent_less answers files old.asts.items place file was here at)
   less_next ns (is_read same rises spent) = omega (arith, ap (spent_on answers files) same)

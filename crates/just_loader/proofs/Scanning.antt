@@ -8,13 +8,13 @@ use Rattle.just_names.specs.declared.name.Name.{Name}
 use Rattle.just_parts.specs.Items.{Item}
 use Rattle.just_ast_items.specs.Edge.{Edge, Imports, Declares, edge_of}
 use Rattle.just_loader.specs.Links.{Link, Unlinked, To, AtFault}
-use Rattle.just_loader.specs.loops.Scanned.{IsPlaceOf, ArePlacesOf, IsStepTo, IsStepOf, AreSteps, Grows, Extends, HasFault}
+use Rattle.just_loader.specs.loops.Scanned.{IsLinkPlace, ArePlacesOf, IsStepTo, IsStepOf, AreSteps, Grows, Extends, HasFault}
 use Rattle.just_errors.specs.Causes.{Cause}
 use Rattle.just_loader.proofs.Numberings.{get_more, map_get, got, named_more}
 use Rattle.std.proofs.lemmas.Option.{slice_get_read}
 
 -- more files are found
-pub place_more : (old more : List (List ℕ)) (l : Link) (t : Option ℕ) → IsPlaceOf old l t → IsPlaceOf (old ++ more) l t
+pub place_more : (old more : List (List ℕ)) (l : Link) (t : Option ℕ) → IsLinkPlace old l t → IsLinkPlace (old ++ more) l t
 place_more old more Unlinked None p = tt
 place_more old more Unlinked (Some k) p = absurd p
 place_more old more (To path) None p = absurd p
@@ -28,7 +28,7 @@ places_more old more (l ∷ ls) [] p = absurd p
 places_more old more (l ∷ ls) (t ∷ ts) p = (place_more old more l t p.0, places_more old more ls ts p.1)
 
 -- one more item
-pub places_push : (paths : List (List ℕ)) (ls : List Link) (ts : List (Option ℕ)) (l : Link) (t : Option ℕ) → ArePlacesOf paths ls ts → IsPlaceOf paths l t → ArePlacesOf paths (ls ++ l ∷ []) (ts ++ t ∷ [])
+pub places_push : (paths : List (List ℕ)) (ls : List Link) (ts : List (Option ℕ)) (l : Link) (t : Option ℕ) → ArePlacesOf paths ls ts → IsLinkPlace paths l t → ArePlacesOf paths (ls ++ l ∷ []) (ts ++ t ∷ [])
 places_push paths [] [] l t ps p = (p, tt)
 places_push paths [] (x ∷ ts) l t ps p = absurd ps
 places_push paths (x ∷ ls) [] l t ps p = absurd ps
@@ -78,7 +78,7 @@ contains_map f xs i x h is = got (map f xs) i (f x) (map_get f xs i x (slice_get
 
 -- the next item
 pub targets_step : (L : Item → Link) (items : List Item) (i : ℕ) (x : Item) (old mid new : List (List ℕ)) (ts more : List (Option ℕ)) (t : Option ℕ) → i < length items → x ≡ get_or items i x
-    → ArePlacesOf mid (map L (take i items)) ts → Grows (λ p. Contains (map L items) (To p)) old mid → IsPlaceOf new (L x) t → Grows (λ p. L x ≡ To p) mid new → more ≡ ts ++ t ∷ []
+    → ArePlacesOf mid (map L (take i items)) ts → Grows (λ p. Contains (map L items) (To p)) old mid → IsLinkPlace new (L x) t → Grows (λ p. L x ≡ To p) mid new → more ≡ ts ++ t ∷ []
     → ArePlacesOf new (map L (take (i + 1) items)) more × Grows (λ p. Contains (map L items) (To p)) old new
 targets_step L items i x old mid new ts more t h is places grows place one e =
     let all : take (i + 1) items ≡ take i items ++ x ∷ [] = take_more items i x h ∙ ap (λ y. take i items ++ y ∷ []) (sym is) in

@@ -17,7 +17,7 @@ use Rattle.just_loader.specs.FileCircles.{BreaksCircle}
 use Rattle.just_loader.specs.loops.FileCircles.{FileLeadsOn}
 use Rattle.just_loader.specs.Keys.{FileKey, BreaksFiles}
 use Rattle.just_loader.specs.Loaded.{Loads}
-use Rattle.just_loader.specs.loops.Placed.{name_at}
+use Rattle.just_loader.specs.loops.Placed.{scanned_name}
 use Rattle.just_loader.specs.loops.Loading.{AreParsed, Stops, spent_by}
 use Rattle.just_loader.specs.loops.Parsed.{AreKeyed}
 use Rattle.just_loader.specs.Reached.{World, IsReachedFile, BreaksInScan}
@@ -68,7 +68,7 @@ module _ (w : World) (scan : Scan) (is : IsScan w scan) (us : List Unfolded) (wh
         let n = read_at whole.first.0 k (omega (arith, whole.first.2.count, slice_get_within us k u e)) in
         let tells = whole.first.2.tells k u n.0 e n.1 in
         let of = parsed.each k n.0 ast n.1 f in
-        let texts : ast.module_path.components ≡ map (name_at scan) u.path.items = ap (λ (a : Ast). a.module_path.components) of.rest ∙ of.from.components ∙ of.came.components ∙ ap (map (name_at scan)) (sym tells.path) in
+        let texts : ast.module_path.components ≡ map (scanned_name scan) u.path.items = ap (λ (a : Ast). a.module_path.components) of.rest ∙ of.from.components ∙ of.came.components ∙ ap (map (scanned_name scan)) (sym tells.path) in
         let spaced : ast.module_path.spaced ≡ false = ap (λ (a : Ast). a.module_path.spaced) of.rest ∙ of.from.spaced in
         λ j. record { components = texts j; spaced = spaced j };
   }

@@ -24,7 +24,7 @@ use Rattle.just_loader.specs.Links.{Link, Unlinked, To, AtFault}
 use Rattle.just_loader.specs.loops.Numbering.{AreFound, paths_of}
 use Rattle.just_loader.specs.Reached.{World, IsReachedFile, from_root, from_file, items_of_file, link, FileLeadsTo, BreaksAt, BreaksInScan}
 use Rattle.just_errors.specs.Causes.{Cause}
-use Rattle.just_loader.specs.loops.Scanned.{IsPlaceOf, ArePlacesOf, IsStepTo, IsStepOf, AreSteps, IsScanned, AreScanned, IsScan, paths_in, Grows, Extends}
+use Rattle.just_loader.specs.loops.Scanned.{IsLinkPlace, ArePlacesOf, IsStepTo, IsStepOf, AreSteps, IsScanned, AreScanned, IsScan, paths_in, Grows, Extends}
 use Rattle.just_loader.specs.Sources.{Files}
 use Rattle.just_loader.specs.declared.index.Found.{Found}
 use Rattle.just_loader.specs.declared.scan_result.Scan.{Scan}
@@ -133,7 +133,7 @@ place_of_link paths (To p ∷ ls) (None ∷ ts) zero path ps e = absurd ps.0
 place_of_link paths (To p ∷ ls) (Some i ∷ ts) zero path ps e = got paths i path (ps.0 ∙ (let same : p ≡ path = cc in ap Some same))
 place_of_link paths (l ∷ ls) (t ∷ ts) (suc k) path ps e = place_of_link paths ls ts k path ps.1 e
 
-place_inside : (paths : List (List ℕ)) (l : Link) (place : ℕ) → IsPlaceOf paths l (Some place) → place < length paths
+place_inside : (paths : List (List ℕ)) (l : Link) (place : ℕ) → IsLinkPlace paths l (Some place) → place < length paths
 place_inside paths Unlinked place p = absurd p
 place_inside paths (To path) place p = slice_get_within paths place path p
 place_inside paths (AtFault c) place p = absurd p
@@ -141,7 +141,7 @@ place_inside paths (AtFault c) place p = absurd p
 places_inside : (paths : List (List ℕ)) (ls : List Link) (ts : List (Option ℕ)) (place : ℕ) → ArePlacesOf paths ls ts → In (Some place) ts → place < length paths
 places_inside paths ls [] place ps h = absurd h
 places_inside paths [] (t ∷ ts) place ps h = absurd ps
-places_inside paths (l ∷ ls) (t ∷ ts) place ps (inl e) = place_inside paths l place (subst (IsPlaceOf paths l) (sym e) ps.0)
+places_inside paths (l ∷ ls) (t ∷ ts) place ps (inl e) = place_inside paths l place (subst (IsLinkPlace paths l) (sym e) ps.0)
 places_inside paths (l ∷ ls) (t ∷ ts) place ps (inr h) = places_inside paths ls ts place ps.1 h
 
 -- a step leads to a target

@@ -11,8 +11,8 @@ ghost use Rattle.just_parts.specs.Syntax.{numbers_of_items};
 ghost use Rattle.just_parts.specs.Asts.{same_ast_key};
 ghost use Rattle.just_ast_items.specs.Edge.{with_absolute};
 ghost use Rattle.just_loader.specs.Loaded.{Loads};
-ghost use Rattle.just_loader.specs.loops.Placed.{at_first_places, file_at};
-ghost use Rattle.just_loader.specs.loops.Loading.{AreNodes, AreParsedBy, AreSources, AreUnfolded, CameInAt, CameInSoFar, ComesNext, HavePaths, InWorlds, IsSaid, IsScanBy, KeepsLaws, Stops, StopsInFile, spent_by};
+ghost use Rattle.just_loader.specs.loops.Placed.{at_first_places, scanned_path};
+ghost use Rattle.just_loader.specs.loops.Loading.{AreNodes, AreParsedBy, AreNodeSources, AreUnfolded, CameInAt, CameInSoFar, ComesNext, HavePaths, InWorlds, IsSaid, IsScanBy, KeepsLaws, Stops, StopsInFile, spent_by};
 ghost use Rattle.just_loader.specs.loops.Parsed.{AreHeld, AreKeyed, relative_at};
 ghost use Rattle.just_loader.specs.Reached.{World, link, world_of};
 ghost use Rattle.just_loader.specs.loops.Reading.{ShareNoNumbers, AreRead, AreReadOf, TakesTextOf};
@@ -87,7 +87,7 @@ fn sources_of<'src>(
 ) -> Result<Vec<Source<'src>>, Error<'src>>
     requires scan { (w : World) × IsScan w scan.now }
     requires nodes { AreUnfolded scan.now nodes.now }
-    ensures sources { IfOk result (λ sources. (ns : List Node) → AreNodes scan.now nodes.now ns → AreSources scan.now ns sources.items) }
+    ensures sources { IfOk result (λ sources. (ns : List Node) → AreNodes scan.now nodes.now ns → AreNodeSources scan.now ns sources.items) }
     ensures error { IfErr result (λ e. e ≡ Error.Memory) }
 {
     let mut sources = Vec::new(alloc);
@@ -104,7 +104,7 @@ fn target_path<'src>(
     target: Option<usize>,
 ) -> Result<Option<Text>, AllocError>
     requires { IfSome target (λ place. place < length scan.now.files.items) }
-    ensures { IfOk result (λ path. path ≡ option_map (file_at scan.now) target) }
+    ensures { IfOk result (λ path. path ≡ option_map (scanned_path scan.now) target) }
 {
     let Some(place) = target else {
         return Ok(None);
@@ -121,7 +121,7 @@ fn link_item<'src>(
     item: &mut Item<'src>,
 ) -> Result<(), AllocError>
     requires { IfSome target (λ place. place < length scan.now.files.items) }
-    ensures { OnOk result (item.new ≡ with_absolute (option_map (file_at scan.now) target) item.old) }
+    ensures { OnOk result (item.new ≡ with_absolute (option_map (scanned_path scan.now) target) item.old) }
 {
     let path = target_path(alloc, scan, target)?;
     item.set_absolute(path);
@@ -157,7 +157,7 @@ fn read_file<'src, S: Syntax>(
     requires place { place < length scan.now.files.items }
     requires read { AreReadOf (S.answers syntax.now) scan.now.files.items texts.old.asts.items }
     requires few { texts.old.numerator ≤ 2 ^ 64 }
-    ensures said { IfOk result (λ ast. InWorlds scan.now (S.answers syntax.now) (λ w. IsSaid w (file_at scan.now place) source.now ast)) }
+    ensures said { IfOk result (λ ast. InWorlds scan.now (S.answers syntax.now) (λ w. IsSaid w (scanned_path scan.now place) source.now ast)) }
     ensures laws { IfOk result (KeepsLaws (S.answers syntax.now)) }
     ensures takes { IfOk result (λ ast. TakesTextOf scan.now (S.answers syntax.now) place texts.old texts.new (numbers_of_items ast.items)) }
     ensures fits { OnOk result (texts.new.numerator ≤ 2 ^ 64) }
@@ -195,7 +195,7 @@ fn read_all<'src, S: Syntax>(
 ) -> Result<Vec<Ast<'src>>, Error<'src>>
     requires scan { (w : World) × IsScanBy w scan.now (S.answers syntax.now) }
     requires nodes { AreUnfolded scan.now nodes.now }
-    requires sources { (ns : List Node) → AreNodes scan.now nodes.now ns → AreSources scan.now ns sources.now }
+    requires sources { (ns : List Node) → AreNodes scan.now nodes.now ns → AreNodeSources scan.now ns sources.now }
     requires read { AreRead (S.answers syntax.now) scan.now.files.items texts }
     ensures parsed { IfOk result (λ asts. AreParsedBy (S.answers syntax.now) scan.now nodes.now asts.items) }
     ensures numbers { IfOk result (λ asts. ShareNoNumbers asts.items) }

@@ -12,7 +12,7 @@ ghost use Rattle.just_loader.specs.Reached.{FileLeadsTo, BreaksAt, BreaksInScan,
 ghost use Rattle.just_errors.specs.Causes.{Keeps, Reports};
 ghost use Rattle.just_loader.specs.Sources.{text_at};
 ghost use Rattle.just_loader.specs.loops.Reading.{AreRead, GoesOn};
-ghost use Rattle.just_loader.specs.loops.Scanned.{ArePlacesIn, IsPlaceOf, AreSteps, IsScannedIn, IsScan, Finds, FindsAll, Extends, HasAlsoSteps, HasFault};
+ghost use Rattle.just_loader.specs.loops.Scanned.{ArePlacesIn, IsLinkPlace, AreSteps, IsScannedIn, IsScan, Finds, FindsAll, Extends, HasAlsoSteps, HasFault};
 
 use crate::index::{Found, NameNumbers};
 use crate::links::link;
@@ -65,7 +65,7 @@ fn target<'src, S: Syntax>(
     found: &mut Found<'src>,
 ) -> Result<Option<usize>, Error<'src>>
     requires { AreFound sources.now found.old }
-    ensures place { IfOk result (IsPlaceOf (paths_found found.new) (link_by sources.now config.now (S.answers syntax.now) folder.now item.now)) }
+    ensures place { IfOk result (IsLinkPlace (paths_found found.new) (link_by sources.now config.now (S.answers syntax.now) folder.now item.now)) }
     ensures grows { OnOk result (Finds (λ path. link_by sources.now config.now (S.answers syntax.now) folder.now item.now ≡ To path) found.old found.new) }
     ensures found { OnOk result (AreFound sources.now found.new) }
     ensures error { IfErr result (Reports (λ c. link_by sources.now config.now (S.answers syntax.now) folder.now item.now ≡ AtFault c)) }

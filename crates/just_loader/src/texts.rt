@@ -3,7 +3,7 @@
 ghost use Rattle.std.specs.Prelude.{◌≡◌, ◌≢◌, ◌^◌, ◌≤◌, [], None, Some, Ok, map, false, set, slice_get, IfErr, IfNone, IfOk, IfSome, IsErrOf, OnOk};
 ghost use Rattle.just_parts.specs.Syntax.{Refuses, components_of, numbers_of_items};
 ghost use Rattle.just_parts.specs.Items.{Ast};
-ghost use Rattle.just_loader.specs.loops.Reading.{IsBroughtIn, IsRead, IsReadBy, TakesText, brought_in, takes};
+ghost use Rattle.just_loader.specs.loops.Reading.{IsBroughtIn, IsAstRead, IsAstReadBy, TakesText, brought_in, takes_numbers};
 
 use crate::scan_result::ScannedFile;
 use just_data::Sequence;
@@ -144,10 +144,10 @@ pub(crate) fn read_text<'src, S: Syntax>(
     texts: &mut ReadTexts<'src>,
 ) -> Result<Ast<'src>, Error<'src>>
     requires read { (ast : Ast) → slice_get texts.old.asts.items place ≡ Some (Some ast) →
-        IsRead (S.answers syntax.now) file.now.relative file.now.text ast }
+        IsAstRead (S.answers syntax.now) file.now.relative file.now.text ast }
     requires few { texts.old.numerator ≤ 2 ^ 64 }
-    ensures read { IfOk result (IsReadBy (S.answers syntax.now) file.now.relative file.now.text source.now) }
-    ensures takes { IfOk result (λ ast. TakesText place (takes (S.answers syntax.now) file.now) texts.old texts.new (numbers_of_items ast.items)) }
+    ensures read { IfOk result (IsAstReadBy (S.answers syntax.now) file.now.relative file.now.text source.now) }
+    ensures takes_numbers { IfOk result (λ ast. TakesText place (takes_numbers (S.answers syntax.now) file.now) texts.old texts.new (numbers_of_items ast.items)) }
     ensures fits { OnOk result (texts.new.numerator ≤ 2 ^ 64) }
     ensures stopped { IfErr result (Refuses (S.answers syntax.now) file.now.relative file.now.text texts.old.numerator) }
 {

@@ -15,7 +15,7 @@ use Rattle.just_recipes.proofs.Places.{found-number}
 use Rattle.just_names.specs.declared.number.Number.{Number}
 use Rattle.just_module_contents.specs.Defaults.{IsBefore, IsDefault, IsDefaultPlace, IsMarked}
 use Rattle.just_module_contents.specs.loops.Defaults.{IsBetter, IsMarkedPlace}
-use Rattle.just_module_contents.specs.Recipes.{name_of, line_of, recipe_at}
+use Rattle.just_module_contents.specs.Recipes.{name_of_recipe, line_of, recipe_at}
 use Rattle.just_module_aliases.proofs.Later.{cmp, greater_not_less}
 use Rattle.just_module_contents.specs.Resolved.{number_at}
 
@@ -25,13 +25,13 @@ equal_not_less Equal e = λ f. cc
 equal_not_less Greater e = cc
 
 pub itself : (a : Recipe UnresolvedDependency) → IsBefore a a
-itself a = record { line = omega arith; name = λ e. equal_not_less (cmp (name_of a) (name_of a)) (tied_itself nat_list_cmp_total (name_of a)) }
+itself a = record { line = omega arith; name = λ e. equal_not_less (cmp (name_of_recipe a) (name_of_recipe a)) (tied_itself nat_list_cmp_total (name_of_recipe a)) }
 
 pub by_line : (a b : Recipe UnresolvedDependency) → line_of a < line_of b → IsBefore a b
 by_line a b l = record { line = omega (arith, l); name = λ e. absurd (omega (arith, l, e)) }
 
-pub by_name : (a b : Recipe UnresolvedDependency) → line_of a ≡ line_of b → cmp (name_of b) (name_of a) ≡ Less → IsBefore a b
-by_name a b e l = record { line = omega (arith, e); name = λ _. greater_not_less (cmp (name_of a) (name_of b)) (cmp (name_of b) (name_of a)) (nat_list_cmp_total.antisymm (name_of a) (name_of b)) l }
+pub by_name : (a b : Recipe UnresolvedDependency) → line_of a ≡ line_of b → cmp (name_of_recipe b) (name_of_recipe a) ≡ Less → IsBefore a b
+by_name a b e l = record { line = omega (arith, e); name = λ _. greater_not_less (cmp (name_of_recipe a) (name_of_recipe b)) (cmp (name_of_recipe b) (name_of_recipe a)) (nat_list_cmp_total.antisymm (name_of_recipe a) (name_of_recipe b)) l }
 
 -- no less by two is no less by one
 not_less : (x y z : List ℕ) (o : Ordering) → o ≡ cmp x y → o ≢ Less → cmp y z ≢ Less → cmp x z ≢ Less
@@ -42,11 +42,11 @@ not_less x y z Greater e n m = λ l. m (nat_list_cmp_total.trans y x z (nat_list
 pub by_two : (a b c : Recipe UnresolvedDependency) → IsBefore a b → IsBefore b c → IsBefore a c
 by_two a b c p q = record {
   line = omega (arith, p.line, q.line);
-  name = λ e. not_less (name_of a) (name_of b) (name_of c) (cmp (name_of a) (name_of b)) refl (p.name (omega (arith, p.line, q.line, e))) (q.name (omega (arith, p.line, q.line, e)));
+  name = λ e. not_less (name_of_recipe a) (name_of_recipe b) (name_of_recipe c) (cmp (name_of_recipe a) (name_of_recipe b)) refl (p.name (omega (arith, p.line, q.line, e))) (q.name (omega (arith, p.line, q.line, e)));
 }
 
 -- a name that is no less, on one line
-pub by_no_less : (a b : Recipe UnresolvedDependency) → line_of a ≡ line_of b → cmp (name_of a) (name_of b) ≢ Less → IsBefore a b
+pub by_no_less : (a b : Recipe UnresolvedDependency) → line_of a ≡ line_of b → cmp (name_of_recipe a) (name_of_recipe b) ≢ Less → IsBefore a b
 by_no_less a b e n = record { line = omega (arith, e); name = λ _. n }
 
 -- one more recipe, which is resolved or is not

@@ -13,7 +13,7 @@ use Rattle.just_recipe.specs.declared.dependency.UnresolvedDependency.{Unresolve
 use Rattle.just_recipe.specs.declared.recipe.Recipe.{Recipe}
 use Rattle.just_module_contents.specs.Defaults.{BreaksDefaults, IsLater, NoneMarked, duplicate_default, is_marked}
 use Rattle.just_module_contents.specs.loops.Defaults.{IsMarkedPlace}
-use Rattle.just_module_contents.specs.Recipes.{line_of, name_of, recipe_at, token_of}
+use Rattle.just_module_contents.specs.Recipes.{line_of, name_of_recipe, recipe_at, token_of}
 
 abbrev pub cmp : List ℕ → List ℕ → Ordering
 cmp = slice_cmp nat_cmp
@@ -37,19 +37,19 @@ not_less_by Greater b e f = λ l. cc
 pub later_by_line : (a b : Recipe UnresolvedDependency) → line_of a < line_of b → IsLater a b
 later_by_line a b l = record { line = omega (arith, l); name = λ e. absurd (omega (arith, l, e)) }
 
-pub later_by_name : (a b : Recipe UnresolvedDependency) → line_of a ≡ line_of b → cmp (name_of a) (name_of b) ≡ Less → IsLater a b
-later_by_name a b e l = record { line = omega (arith, e); name = λ _. greater_not_less (cmp (name_of b) (name_of a)) (cmp (name_of a) (name_of b)) (nat_list_cmp_total.antisymm (name_of b) (name_of a)) l }
+pub later_by_name : (a b : Recipe UnresolvedDependency) → line_of a ≡ line_of b → cmp (name_of_recipe a) (name_of_recipe b) ≡ Less → IsLater a b
+later_by_name a b e l = record { line = omega (arith, e); name = λ _. greater_not_less (cmp (name_of_recipe b) (name_of_recipe a)) (cmp (name_of_recipe a) (name_of_recipe b)) (nat_list_cmp_total.antisymm (name_of_recipe b) (name_of_recipe a)) l }
 
-pub later_by_no_less : (a b : Recipe UnresolvedDependency) → line_of a ≡ line_of b → cmp (name_of a) (name_of b) ≢ Less → IsLater b a
+pub later_by_no_less : (a b : Recipe UnresolvedDependency) → line_of a ≡ line_of b → cmp (name_of_recipe a) (name_of_recipe b) ≢ Less → IsLater b a
 later_by_no_less a b e n = record { line = omega (arith, e); name = λ _. n }
 
 module _ (rs : List (Recipe UnresolvedDependency)) where
   -- two that are marked
   pub told_default : (i j : ℕ) (a b : Recipe UnresolvedDependency) (place : Place) (recipe : List ℕ) → i < length rs → j < length rs → i ≢ j → is_marked (recipe_at rs i) ≡ true → is_marked (recipe_at rs j) ≡ true
-      → a ≡ recipe_at rs i → b ≡ recipe_at rs j → IsLater a b → place ≡ token_of b → recipe ≡ name_of b → BreaksDefaults rs (Broken place (kind.DuplicateDefault recipe))
+      → a ≡ recipe_at rs i → b ≡ recipe_at rs j → IsLater a b → place ≡ token_of b → recipe ≡ name_of_recipe b → BreaksDefaults rs (Broken place (kind.DuplicateDefault recipe))
   told_default i j a b place recipe h l apart first second one other later told said =
       subst (λ p. BreaksDefaults rs (Broken p (kind.DuplicateDefault recipe))) (sym (told ∙ ap token_of other))
-      (subst (λ t. BreaksDefaults rs (Broken (token_of (recipe_at rs j)) (kind.DuplicateDefault t))) (sym (said ∙ ap name_of other))
+      (subst (λ t. BreaksDefaults rs (Broken (token_of (recipe_at rs j)) (kind.DuplicateDefault t))) (sym (said ∙ ap name_of_recipe other))
       (duplicate_default i j h l apart first second (subst (λ x. IsLater x (recipe_at rs j)) one (subst (IsLater a) other later))))
 
   -- one more that is not marked, and one that is

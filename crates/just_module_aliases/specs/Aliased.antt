@@ -30,12 +30,12 @@ pub record Targets : Type 0 where
   pub modules : List Justfile
   pub recipes : List (Text × RecipeKey)
 
-abbrev pub targets : List (Text × Text) → List (Text × Disabled) → List Justfile → List (Text × RecipeKey) → Targets
-targets absent disabled modules recipes = record { absent = absent; disabled = disabled; modules = modules; recipes = recipes }
+abbrev pub alias_targets : List (Text × Text) → List (Text × Disabled) → List Justfile → List (Text × RecipeKey) → Targets
+alias_targets absent disabled modules recipes = record { absent = absent; disabled = disabled; modules = modules; recipes = recipes }
 
 -- the same of a compiled module
 abbrev pub targets_of : Justfile → Targets
-targets_of j = targets (out-Justfile j).absent_modules (out-Justfile j).disabled_recipes (out-Justfile j).modules (out-Justfile j).recipes
+targets_of j = alias_targets (out-Justfile j).absent_modules (out-Justfile j).disabled_recipes (out-Justfile j).modules (out-Justfile j).recipes
 
 -- what is meant by a path that resolves to a recipe so
 abbrev pub as_recipe : Option (Resolution Number) → Option AliasMeaning

@@ -3,7 +3,7 @@
 ghost use Rattle.std.specs.Prelude.{◌≡◌, IfErr, IfOk, OnOk};
 ghost use Rattle.just_errors.specs.Causes.{Keeps, Reports};
 ghost use Rattle.just_module_contents.specs.Definitions.{aliases_in};
-ghost use Rattle.just_module_aliases.specs.Aliased.{UnknownTargets, aliases_of, as_recipe, alias_meant, targets, with_meaning};
+ghost use Rattle.just_module_aliases.specs.Aliased.{UnknownTargets, aliases_of, as_recipe, alias_meant, alias_targets, with_meaning};
 ghost use Rattle.just_module_aliases.specs.loops.Aliased.{IsAdded, UnknownTarget};
 ghost use Rattle.just_justfile.specs.Walks.{AreOrdered, resolved_recipe};
 
@@ -57,7 +57,7 @@ fn meant<'src>(
     recipes: &Table<'src, RecipeKey<'src>>,
 ) -> Result<Option<AliasMeaning>, AllocError>
     requires { AreOrdered modules.now }
-    ensures { let t = targets absent.now disabled.now modules.now recipes.now in
+    ensures { let t = alias_targets absent.now disabled.now modules.now recipes.now in
         IfOk result (λ it. it ≡ alias_meant t path.now) }
 {
     match Resolution::resolve_module(alloc, path, absent, modules)? {
@@ -111,9 +111,9 @@ fn add_alias<'src>(
     recipes: &Table<'src, RecipeKey<'src>>,
 ) -> Result<(), Error<'src>>
     requires { AreOrdered modules.now }
-    ensures added { let t = targets absent.now disabled.now modules.now recipes.now in
+    ensures added { let t = alias_targets absent.now disabled.now modules.now recipes.now in
         OnOk result (IsAdded t alias.now aliases.old aliases.new) }
-    ensures named { let t = targets absent.now disabled.now modules.now recipes.now in
+    ensures named { let t = alias_targets absent.now disabled.now modules.now recipes.now in
         IfErr result (Reports (UnknownTarget t alias.now)) }
 {
     match meant(alloc, &alias.target, absent, disabled, modules, recipes)? {
@@ -143,11 +143,11 @@ pub fn resolve_aliases<'a, 'src>(
     recipes: &Table<'src, RecipeKey<'src>>,
 ) -> Result<Aliases<'src>, Error<'src>>
     requires { AreOrdered modules.now }
-    ensures kept { let t = targets absent.now disabled.now modules.now recipes.now in
+    ensures kept { let t = alias_targets absent.now disabled.now modules.now recipes.now in
         OnOk result (Keeps (UnknownTargets t (aliases_in definitions.now))) }
-    ensures aliases { let t = targets absent.now disabled.now modules.now recipes.now in
+    ensures aliases { let t = alias_targets absent.now disabled.now modules.now recipes.now in
         IfOk result (λ made. made ≡ aliases_of t (aliases_in definitions.now)) }
-    ensures named { let t = targets absent.now disabled.now modules.now recipes.now in
+    ensures named { let t = alias_targets absent.now disabled.now modules.now recipes.now in
         IfErr result (Reports (UnknownTargets t (aliases_in definitions.now))) }
 {
     let mut made = Aliases {

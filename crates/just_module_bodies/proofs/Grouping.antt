@@ -21,7 +21,7 @@ use Rattle.just_recipe.specs.Script.{is_script}
 use Rattle.just_parts.specs.Syntax.{SyntaxAnswers}
 use Rattle.just_recipe.specs.declared.dependency.UnresolvedDependency.{UnresolvedDependency}
 use Rattle.just_recipe.specs.declared.recipe.Recipe.{Recipe}
-use Rattle.just_module_contents.specs.Recipes.{name_of, recipe_at}
+use Rattle.just_module_contents.specs.Recipes.{name_of_recipe, recipe_at}
 use Rattle.just_module_contents.specs.Shells.{BreaksFirstLine, BreaksLines, ScriptAttribute, BreaksShellRecipe, BreaksShells, extra_whitespace, guard_and_infallible, invalid_attribute, is_of_scripts, of_attributes, of_line, of_lines, of_recipe}
 
 -- equal sigils are the same
@@ -139,8 +139,8 @@ pub attributes_kept : (recipe : Recipe UnresolvedDependency) → ((k : ℕ) (nam
 attributes_kept recipe none _ (invalid_attribute {named} i at is) = false≢true (sym (none i named at) ∙ is)
 
 pub attribute_told : (r : Recipe UnresolvedDependency) (i : ℕ) (named : NamedAttribute Expression) (place : Place) (recipe attribute : List ℕ) → slice_get r.attributes i ≡ Some named → is_of_scripts named.attribute ≡ true
-    → place ≡ r.name.token → recipe ≡ name_of r → attribute ≡ text_of_name named.name → ScriptAttribute r (Broken place (kind.InvalidShellRecipeAttribute recipe attribute))
+    → place ≡ r.name.token → recipe ≡ name_of_recipe r → attribute ≡ text_of_name named.name → ScriptAttribute r (Broken place (kind.InvalidShellRecipeAttribute recipe attribute))
 attribute_told r i named place recipe attribute at is told of said =
     subst (λ p. ScriptAttribute r (Broken p (kind.InvalidShellRecipeAttribute recipe attribute))) (sym told)
     (subst (λ t. ScriptAttribute r (Broken r.name.token (kind.InvalidShellRecipeAttribute t attribute))) (sym of)
-    (subst (λ t. ScriptAttribute r (Broken r.name.token (kind.InvalidShellRecipeAttribute (name_of r) t))) (sym said) (invalid_attribute i at is)))
+    (subst (λ t. ScriptAttribute r (Broken r.name.token (kind.InvalidShellRecipeAttribute (name_of_recipe r) t))) (sym said) (invalid_attribute i at is)))

@@ -20,7 +20,7 @@ use Rattle.just_module_contents.specs.declared.definitions.Naming.{Naming}
 use Rattle.just_module_contents.specs.declared.definitions.Naming.TheVariants as naming
 use Rattle.just_names.specs.Index.{texts_of_names, AreDifferent, IsLast, NoneRepeats, Repeats, name_at}
 use Rattle.just_names.specs.loops.Index.{AreApart}
-use Rattle.just_module_contents.specs.Recipes.{name_of, names_of}
+use Rattle.just_module_contents.specs.Recipes.{name_of_recipe, names_of}
 use Rattle.just_module_contents.specs.Settings.{Conflicts, allows_variables}
 use Rattle.just_module_contents.specs.Shells.{BreaksShells}
 use Rattle.just_parts.specs.Syntax.{SyntaxAnswers}
@@ -41,7 +41,7 @@ get_right xs ys i y e =
 -- the names of definitions
 texts_recipes : (rs : List (Recipe UnresolvedDependency)) → texts_of_defined (map defined_recipe rs) ≡ names_of rs
 texts_recipes [] = refl
-texts_recipes (r ∷ rs) = ap (λ ts. name_of r ∷ ts) (texts_recipes rs)
+texts_recipes (r ∷ rs) = ap (λ ts. name_of_recipe r ∷ ts) (texts_recipes rs)
 
 pub texts_all : (ns : List Naming) (rs : List (Recipe UnresolvedDependency)) → texts_of_defined (all_defined ns rs) ≡ texts_of_named ns ++ names_of rs
 texts_all ns rs = map-append (λ (d : Defined). text_of_name d.name) (map defined_naming ns) (map defined_recipe rs) ∙ ap (λ ts. texts_of_named ns ++ ts) (texts_recipes rs)

@@ -12,7 +12,7 @@ use Rattle.just_ast_definitions.specs.declared.attribute.Attribute.TheVariants a
 use Rattle.just_ast_definitions.specs.declared.attribute.NamedAttribute.{NamedAttribute}
 use Rattle.just_recipe.specs.declared.dependency.UnresolvedDependency.{UnresolvedDependency}
 use Rattle.just_recipe.specs.declared.recipe.Recipe.{Recipe}
-use Rattle.just_module_contents.specs.Recipes.{line_of, name_of, recipe_at, token_of}
+use Rattle.just_module_contents.specs.Recipes.{line_of, name_of_recipe, recipe_at, token_of}
 use Rattle.just_module_contents.specs.Resolved.{number_at, unresolved_numbers}
 use Rattle.just_names.specs.declared.number.Number.{Number}
 
@@ -35,17 +35,17 @@ NoneMarked recipes = (k : ℕ) → k < length recipes → is_marked (recipe_at r
 -- b stands on a greater line than a, or on the same with a name that is no less
 pub record IsLater (a b : Recipe UnresolvedDependency) : Type 0 where
   pub line : line_of a ≤ line_of b
-  pub name : line_of a ≡ line_of b → slice_cmp nat_cmp (name_of b) (name_of a) ≢ Less
+  pub name : line_of a ≡ line_of b → slice_cmp nat_cmp (name_of_recipe b) (name_of_recipe a) ≢ Less
 
 -- Two recipes have the attribute. It is told at the later one.
 pub data BreaksDefaults (recipes : List (Recipe UnresolvedDependency)) : Cause → Type 0 where
   duplicate_default : (i j : ℕ) → i < length recipes → j < length recipes → i ≢ j → is_marked (recipe_at recipes i) ≡ true → is_marked (recipe_at recipes j) ≡ true
-      → IsLater (recipe_at recipes i) (recipe_at recipes j) → BreaksDefaults recipes (Broken (token_of (recipe_at recipes j)) (kind.DuplicateDefault (name_of (recipe_at recipes j))))
+      → IsLater (recipe_at recipes i) (recipe_at recipes j) → BreaksDefaults recipes (Broken (token_of (recipe_at recipes j)) (kind.DuplicateDefault (name_of_recipe (recipe_at recipes j))))
 
 -- a stands on a smaller line than b, or on the same with a name that is no less
 pub record IsBefore (a b : Recipe UnresolvedDependency) : Type 0 where
   pub line : line_of a ≤ line_of b
-  pub name : line_of a ≡ line_of b → slice_cmp nat_cmp (name_of a) (name_of b) ≢ Less
+  pub name : line_of a ≡ line_of b → slice_cmp nat_cmp (name_of_recipe a) (name_of_recipe b) ≢ Less
 
 -- Of the first n recipes of the own file those that are resolved: none stands on a smaller line than the one at a place, and none on the same line has a greater name.
 pub record IsDefault (resolved : List ℕ) (own : List (Recipe UnresolvedDependency)) (n place : ℕ) : Type 0 where

@@ -6,7 +6,7 @@ use Rattle.just_names.specs.Name.{text_of_name}
 use Rattle.just_ast_definitions.specs.declared.assignment.Assignment.{Assignment}
 use Rattle.just_recipe.specs.declared.dependency.UnresolvedDependency.{UnresolvedDependency}
 use Rattle.just_recipe.specs.declared.recipe.Recipe.{Recipe}
-use Rattle.just_module_contents.specs.Recipes.{name_of}
+use Rattle.just_module_contents.specs.Recipes.{name_of_recipe}
 use Rattle.just_module_contents.specs.declared.precedence.Claim.{Claim}
 
 -- another definition of the same name lies at a smaller depth, or at the same
@@ -31,7 +31,7 @@ kept claim xs = left_of claim xs xs
 
 -- the name of a recipe or a variable, with the depth of its file
 abbrev pub claim_of_recipe : Recipe UnresolvedDependency → Claim
-claim_of_recipe r = record { name = name_of r; depth = r.file_depth }
+claim_of_recipe r = record { name = name_of_recipe r; depth = r.file_depth }
 
 abbrev pub claim_of_variable : Assignment → Claim
 claim_of_variable a = record { name = text_of_name a.name; depth = a.file_depth }

@@ -19,8 +19,8 @@ use Rattle.just_ast_items.specs.declared.item.Item.TheVariants as item
 abbrev pub token_of : Recipe UnresolvedDependency → Place
 token_of recipe = recipe.name.token
 
-abbrev pub name_of : Recipe UnresolvedDependency → List ℕ
-name_of recipe = text_of_name recipe.name
+abbrev pub name_of_recipe : Recipe UnresolvedDependency → List ℕ
+name_of_recipe recipe = text_of_name recipe.name
 
 abbrev pub line_of : Recipe UnresolvedDependency → ℕ
 line_of recipe = recipe.name.token.line
@@ -104,18 +104,18 @@ recipe_at recipes i = get_or recipes i no_recipe
 
 -- the names of recipes
 abbrev pub names_of : List (Recipe UnresolvedDependency) → List (List ℕ)
-names_of = map name_of
+names_of = map name_of_recipe
 
 -- Recipe a depends on recipe b: one of its dependencies is b's name.
 pub record Depends (recipes : List (Recipe UnresolvedDependency)) (a b : ℕ) : Type 0 where
   pub dependent : a < length recipes
   pub there : b < length recipes
-  pub names : Contains (dependency_paths (recipe_at recipes a)) (name_of (recipe_at recipes b) ∷ [])
+  pub names : Contains (dependency_paths (recipe_at recipes a)) (name_of_recipe (recipe_at recipes b) ∷ [])
 
 -- the same by names
 pub record DependsOnRecipe (recipes : List (Recipe UnresolvedDependency)) (dependent name : List ℕ) : Type 0 where
   pub from : ℕ
   pub to : ℕ
   pub step : Depends recipes from to
-  pub dependent_is : name_of (recipe_at recipes from) ≡ dependent
-  pub name_is : name_of (recipe_at recipes to) ≡ name
+  pub dependent_is : name_of_recipe (recipe_at recipes from) ≡ dependent
+  pub name_is : name_of_recipe (recipe_at recipes to) ≡ name

@@ -24,11 +24,11 @@ use Rattle.just_names.specs.Index.{texts_of_names, Repeats, name_at}
 use Rattle.just_module_contents.specs.Shells.{BreaksShells}
 use Rattle.just_module_contents.specs.Settings.{Conflicts, allows_variables, are_incompatible, line_at, place_at, setting_at, setting_names}
 use Rattle.just_module_contents.specs.declared.definitions.Naming.{Naming}
-use Rattle.just_module_contents.specs.Recipes.{name_of, named_parameters, parameter_names, FollowsDefault, named_paths, recipe_at, DependsOnRecipe}
+use Rattle.just_module_contents.specs.Recipes.{name_of_recipe, named_parameters, parameter_names, FollowsDefault, named_paths, recipe_at, DependsOnRecipe}
 
 -- A recipe has a parameter's name twice: those two that follow each other under that name; or a parameter whose group may not be empty follows one with a default, both given by their places. It is told at the later parameter.
 pub data BreaksParameters (recipes : List (Recipe UnresolvedDependency)) : Cause → Type 0 where
-  duplicate_parameter : {second : Name} {recipe : List ℕ} (i p q : ℕ) → i < length recipes → name_of (recipe_at recipes i) ≡ recipe
+  duplicate_parameter : {second : Name} {recipe : List ℕ} (i p q : ℕ) → i < length recipes → name_of_recipe (recipe_at recipes i) ≡ recipe
       → Repeats (parameter_names (recipe_at recipes i)) p q → slice_get (named_parameters (recipe_at recipes i)) q ≡ Some second
       → BreaksParameters recipes (Broken second.token (kind.DuplicateParameter recipe (text_of_name second)))
   required_after_default : {second : Name} (i q : ℕ) → i < length recipes → FollowsDefault (recipe_at recipes i).parameters q
@@ -148,7 +148,7 @@ pub record IsRecipeCircleOf (recipes : List (Recipe UnresolvedDependency)) (reci
 pub record IsDependencyOn (recipes : List (Recipe UnresolvedDependency)) (dependent named : List ℕ) (path : Namepath) : Type 0 where
   pub from : ℕ
   pub there : from < length recipes
-  pub dependent_is : name_of (recipe_at recipes from) ≡ dependent
+  pub dependent_is : name_of_recipe (recipe_at recipes from) ≡ dependent
   pub depends : Contains (named_paths (recipe_at recipes from)) path
   pub names : texts_of_path path ≡ named ∷ []
 
@@ -160,7 +160,7 @@ IsOutside found least most = (found < least) ⊎ (most < found)
 pub record DependsBy (recipes : List (Recipe UnresolvedDependency)) (name : List ℕ) (path : Namepath) : Type 0 where
   pub from : ℕ
   pub there : from < length recipes
-  pub name_is : name_of (recipe_at recipes from) ≡ name
+  pub name_is : name_of_recipe (recipe_at recipes from) ≡ name
   pub depends : Contains (named_paths (recipe_at recipes from)) path
 
 -- a recipe that stands has this dependency
@@ -168,7 +168,7 @@ pub record StandsWith (Stands : Text → Type 0) (recipes : List (Recipe Unresol
   pub from : ℕ
   pub there : from < length recipes
   pub depends : Contains (recipe_at recipes from).dependencies d
-  pub stands : Stands (name_of (recipe_at recipes from))
+  pub stands : Stands (name_of_recipe (recipe_at recipes from))
 
 -- What is broken of dependencies, where paths lead to recipes, some recipes stand, and what a path leads to takes so many arguments at least and at most.
 module _ (Leads : Namepath → Type 0) (Stands : Text → Type 0) (Takes : Namepath → ℕ → ℕ → Type 0) where

@@ -17,7 +17,7 @@ use Rattle.just_recipe.specs.Script.{is_script}
 use Rattle.just_parts.specs.Syntax.{SyntaxAnswers}
 use Rattle.just_recipe.specs.declared.dependency.UnresolvedDependency.{UnresolvedDependency}
 use Rattle.just_recipe.specs.declared.recipe.Recipe.{Recipe}
-use Rattle.just_module_contents.specs.Recipes.{name_of, recipe_at}
+use Rattle.just_module_contents.specs.Recipes.{name_of_recipe, recipe_at}
 
 -- What is broken at a line that begins a group: it has the sigils `?` and `-`, or it is indented further than its body. It is told at the text that it begins with.
 pub data BreaksFirstLine (answers : SyntaxAnswers) (settings : Settings) (line : Line) : Cause → Type 0 where
@@ -38,7 +38,7 @@ is_of_scripts _ = false
 -- A recipe has an attribute that only a script may have. It is told at the recipe's name.
 pub data ScriptAttribute (recipe : Recipe UnresolvedDependency) : Cause → Type 0 where
   invalid_attribute : {named : NamedAttribute Expression} (i : ℕ) → slice_get recipe.attributes i ≡ Some named → is_of_scripts named.attribute ≡ true
-      → ScriptAttribute recipe (Broken recipe.name.token (kind.InvalidShellRecipeAttribute (name_of recipe) (text_of_name named.name)))
+      → ScriptAttribute recipe (Broken recipe.name.token (kind.InvalidShellRecipeAttribute (name_of_recipe recipe) (text_of_name named.name)))
 
 -- What is broken in a recipe that is no script: something in its lines, or in its attributes.
 pub data BreaksShellRecipe (answers : SyntaxAnswers) (settings : Settings) (recipe : Recipe UnresolvedDependency) : Cause → Type 0 where

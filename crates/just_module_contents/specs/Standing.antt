@@ -4,13 +4,13 @@ use Rattle.just_errors.specs.Causes.{Cause}
 use Rattle.just_names.specs.Texts.{Text}
 use Rattle.just_recipe.specs.declared.dependency.UnresolvedDependency.{UnresolvedDependency}
 use Rattle.just_recipe.specs.declared.recipe.Recipe.{Recipe}
-use Rattle.just_module_contents.specs.Recipes.{name_of, recipe_at}
+use Rattle.just_module_contents.specs.Recipes.{name_of_recipe, recipe_at}
 
 -- Of recipes those that stand, in order, where a name tells which do.
 pub data AreStanding (Stands : Text → Type 0) : List (Recipe UnresolvedDependency) → List (Recipe UnresolvedDependency) → Type 0 where
   none : AreStanding Stands [] []
-  stands : {r : Recipe UnresolvedDependency} {rs standing : List (Recipe UnresolvedDependency)} → Stands (name_of r) → AreStanding Stands rs standing → AreStanding Stands (r ∷ rs) (r ∷ standing)
-  falls : {r : Recipe UnresolvedDependency} {rs standing : List (Recipe UnresolvedDependency)} → (Stands (name_of r) → ⊥) → AreStanding Stands rs standing → AreStanding Stands (r ∷ rs) standing
+  stands : {r : Recipe UnresolvedDependency} {rs standing : List (Recipe UnresolvedDependency)} → Stands (name_of_recipe r) → AreStanding Stands rs standing → AreStanding Stands (r ∷ rs) (r ∷ standing)
+  falls : {r : Recipe UnresolvedDependency} {rs standing : List (Recipe UnresolvedDependency)} → (Stands (name_of_recipe r) → ⊥) → AreStanding Stands rs standing → AreStanding Stands (r ∷ rs) standing
 
 -- A rule of one recipe is broken by one of these.
 pub data InOne (rule : Recipe UnresolvedDependency → Cause → Type 0) (recipes : List (Recipe UnresolvedDependency)) : Cause → Type 0 where

@@ -48,7 +48,7 @@ use Rattle.just_module_contents.specs.declared.definitions.Naming.{Naming}
 use Rattle.just_module_contents.specs.declared.precedence.Claim.{Claim}
 use Rattle.just_module_contents.specs.RecipeNames.{BreaksRecipeNames, written_scopes}
 use Rattle.just_module_contents.specs.RecipeValues.{BreaksRecipe, HasPattern, IsPastLimits, Unvalued, of_names, of_pattern, of_value, of_values, past_limits, patterns_in}
-use Rattle.just_module_contents.specs.Recipes.{name_of, line_of, token_of, named_parameters, parameter_names, is_defaulted, is_needed, FollowsDefault, named_paths, dependency_paths, least_of, most_of, names_of, no_recipe, recipe_at, Depends, DependsOnRecipe}
+use Rattle.just_module_contents.specs.Recipes.{name_of_recipe, line_of, token_of, named_parameters, parameter_names, is_defaulted, is_needed, FollowsDefault, named_paths, dependency_paths, least_of, most_of, names_of, no_recipe, recipe_at, Depends, DependsOnRecipe}
 use Rattle.just_module_contents.specs.Standing.{InOne, in_recipe}
 use Rattle.just_module_contents.specs.Rules.{BreaksBodies, Dependencies, DependsBy, BreaksFunctions, BreaksHeaders, IsRecipeCircleOf, BreaksLists, BreaksNamings, BreaksDefinitions, BreaksParameters, BreaksRedefinition, BreaksSettings, StandsWith, WhereEvaluated, BreaksUnexports, BreaksVariables, argument_count, circular, duplicate_parameter, of_defined, of_functions, of_lists, of_named, of_parameters, of_sets, of_shells, of_unexports, of_variables, required_after_default, starred, under, unknown_dependency}
 
@@ -111,7 +111,7 @@ defined_read (r ∷ rs) = ap (λ ds. defined_recipe r ∷ ds) (defined_read rs)
 
 names_read : (rs : List (Recipe UnresolvedDependency)) → names_of rs ≡ map (λ (o : Outline). lexeme o.token) (outlines_of rs)
 names_read [] = refl
-names_read (r ∷ rs) = ap (λ ns. name_of r ∷ ns) (names_read rs)
+names_read (r ∷ rs) = ap (λ ns. name_of_recipe r ∷ ns) (names_read rs)
 
 module _ (rs qs : List (Recipe UnresolvedDependency)) (alike : AreAlike rs qs) where
   -- they have the same names
@@ -128,7 +128,7 @@ module _ (rs qs : List (Recipe UnresolvedDependency)) (alike : AreAlike rs qs) w
   tokens : (i : ℕ) → token_of (recipe_at rs i) ≡ token_of (recipe_at qs i)
   tokens i = ap (λ (o : Outline). o.token) (at i)
 
-  pub name : (i : ℕ) → name_of (recipe_at rs i) ≡ name_of (recipe_at qs i)
+  pub name : (i : ℕ) → name_of_recipe (recipe_at rs i) ≡ name_of_recipe (recipe_at qs i)
   name i = ap lexeme (tokens i)
 
   paths : (i : ℕ) → dependency_paths (recipe_at rs i) ≡ dependency_paths (recipe_at qs i)
@@ -165,7 +165,7 @@ module _ (rs qs : List (Recipe UnresolvedDependency)) (alike : AreAlike rs qs) w
 
   told_at : (i : ℕ) (c : Cause) → ScriptAttribute (recipe_at rs i) c → ScriptAttribute (recipe_at qs i) c
   told_at i _ (invalid_attribute {named} k there is) =
-      let same : ScriptAttribute (recipe_at qs i) (Broken (token_of (recipe_at qs i)) (kind.InvalidShellRecipeAttribute (name_of (recipe_at qs i)) (text_of_name named.name)))
+      let same : ScriptAttribute (recipe_at qs i) (Broken (token_of (recipe_at qs i)) (kind.InvalidShellRecipeAttribute (name_of_recipe (recipe_at qs i)) (text_of_name named.name)))
       = invalid_attribute k (subst (λ (ns : List (NamedAttribute Expression)). slice_get ns k ≡ Some named) (ap (λ (o : Outline). o.attributes) (at i)) there) is in
       subst (λ t. ScriptAttribute (recipe_at qs i) (Broken t (kind.InvalidShellRecipeAttribute (lexeme t) (text_of_name named.name)))) (sym (tokens i)) same
 
@@ -185,7 +185,7 @@ module _ (rs qs : List (Recipe UnresolvedDependency)) (alike : AreAlike rs qs) w
   later_alike : (i j : ℕ) → IsLater (recipe_at rs i) (recipe_at rs j) → IsLater (recipe_at qs i) (recipe_at qs j)
   later_alike i j l = record {
     line = subst (λ n. line_of (recipe_at qs i) ≤ n) (lines j) (subst (λ n. n ≤ line_of (recipe_at rs j)) (lines i) l.line);
-    name = λ e. subst (λ n. slice_cmp nat_cmp n (name_of (recipe_at qs i)) ≢ Less) (name j) (subst (λ n. slice_cmp nat_cmp (name_of (recipe_at rs j)) n ≢ Less) (name i) (l.name (lines i ∙ e ∙ sym (lines j))));
+    name = λ e. subst (λ n. slice_cmp nat_cmp n (name_of_recipe (recipe_at qs i)) ≢ Less) (name j) (subst (λ n. slice_cmp nat_cmp (name_of_recipe (recipe_at rs j)) n ≢ Less) (name i) (l.name (lines i ∙ e ∙ sym (lines j))));
   }
 
   pub defaults_alike : (c : Cause) → BreaksDefaults rs c → BreaksDefaults qs c
@@ -201,7 +201,7 @@ module _ (rs qs : List (Recipe UnresolvedDependency)) (alike : AreAlike rs qs) w
   depends_alike a b d = record {
     dependent = inside a d.dependent;
     there = inside b d.there;
-    names = subst (λ n. Contains (dependency_paths (recipe_at qs a)) (n ∷ [])) (name b) (contains a (name_of (recipe_at rs b) ∷ []) d.names);
+    names = subst (λ n. Contains (dependency_paths (recipe_at qs a)) (n ∷ [])) (name b) (contains a (name_of_recipe (recipe_at rs b) ∷ []) d.names);
   }
 
   -- and names depend on names
@@ -257,7 +257,7 @@ module _ (rs qs : List (Recipe UnresolvedDependency)) (alike : AreAlike rs qs) w
   module _ (Leads Leads-2 : Namepath → Type 0) (Stands Stands-2 : Text → Type 0) (Takes Takes-2 : Namepath → ℕ → ℕ → Type 0) (leads_back : (path : Namepath) → Leads-2 path → Leads path) (stands_on : (name : Text) → Stands name → Stands-2 name)
       (takes_on : (d : UnresolvedDependency) → StandsWith Stands rs d → (least most : ℕ) → Takes d.recipe least most → Takes-2 d.recipe least most) where
     stands_with : (d : UnresolvedDependency) → StandsWith Stands rs d → StandsWith Stands-2 qs d
-    stands_with d s = record { from = s.from; there = inside s.from s.there; depends = gives s.from d s.depends; stands = subst Stands-2 (name s.from) (stands_on (name_of (recipe_at rs s.from)) s.stands) }
+    stands_with d s = record { from = s.from; there = inside s.from s.there; depends = gives s.from d s.depends; stands = subst Stands-2 (name s.from) (stands_on (name_of_recipe (recipe_at rs s.from)) s.stands) }
 
     pub dependencies_alike : (lists : Bool) (c : Cause) → Dependencies Leads Stands Takes lists rs c → Dependencies Leads-2 Stands-2 Takes-2 lists qs c
     dependencies_alike lists _ (unknown_dependency {recipe} {unknown} d none) = unknown_dependency (depends_by_alike recipe unknown d) (λ l. none (leads_back unknown l))

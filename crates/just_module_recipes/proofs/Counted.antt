@@ -9,7 +9,7 @@ use Rattle.just_ast_definitions.specs.declared.parameter.Parameter.{Parameter}
 use Rattle.just_errors.specs.Causes.{Broken, Cause, Keeps}
 use Rattle.just_errors.specs.declared.compile_error.CompileErrorKind.TheVariants as kind
 use Rattle.just_justfile.specs.declared.resolution.Resolution.TheVariants as resolution
-use Rattle.just_module_contents.specs.Recipes.{name_of, names_of, recipe_at}
+use Rattle.just_module_contents.specs.Recipes.{name_of_recipe, names_of, recipe_at}
 use Rattle.just_module_contents.specs.Rules.{IsOutside, StandsWith, argument_count, starred}
 use Rattle.just_module_recipes.specs.Given.{Misgiven, of_count, of_star}
 use Rattle.just_module_recipes.specs.Links.{Around, BreaksLinks, HasParameters, Stands, Takes, found_by, of_far, of_near}
@@ -57,7 +57,7 @@ module _ (lists : Bool) (rs : List (Recipe UnresolvedDependency)) (it : Around) 
   only_parameters different t k h ps (of_far n r f g e) = let same = far_only t n k f in sym e ∙ (ap parameters_in (sym g) ∙ ap (parameters_of rs it.held) (sym same))
     where
       far_only : (t : Target) (n : Number) → IsTarget rs it d.recipe t → found_by it d.recipe ≡ Some (resolution.Resolved n) → t ≡ Far n
-      far_only (Near j) n m e = let wrong : Some (resolution.Resolved n) ≡ None = sym e ∙ nowhere it d.recipe (name_of (recipe_at rs j)) m.named in absurd (cc)
+      far_only (Near j) n m e = let wrong : Some (resolution.Resolved n) ≡ None = sym e ∙ nowhere it d.recipe (name_of_recipe (recipe_at rs j)) m.named in absurd (cc)
       far_only (Far m) n f e = let both = sym f ∙ e in let same : m ≡ n = cc in ap Far same
       far_only (Gone set) n f e = let wrong = sym f ∙ e in absurd (cc)
 

@@ -13,7 +13,7 @@ use Rattle.just_justfile.specs.declared.resolution.Resolution.{Resolution}
 use Rattle.just_justfile.specs.declared.resolution.Resolution.TheVariants as resolution
 use Rattle.just_justfile.specs.Walks.{end_of_names, recipe_by}
 use Rattle.just_module_contents.proofs.RecipePlaces.{name_at_place, one_place}
-use Rattle.just_module_contents.specs.Recipes.{name_of, named_paths, names_of, no_recipe, recipe_at}
+use Rattle.just_module_contents.specs.Recipes.{name_of_recipe, named_paths, names_of, no_recipe, recipe_at}
 use Rattle.just_module_contents.specs.Rules.{DependsBy}
 use Rattle.just_module_recipes.specs.Links.{Around, PathLeadsTo, IsNameOf, far, found_by, near}
 use Rattle.just_module_recipes.specs.loops.Rows.{IsTarget, IsTargetAt, IsTargetOf, Lost, far_of, lost, target_by}
@@ -74,7 +74,7 @@ module _ (rs : List (Recipe UnresolvedDependency)) (it : Around) where
 
   module _ (found : List ℕ → Option ℕ) (index : IsIndex (names_of rs) found) where
     count : length (names_of rs) ≡ length rs
-    count = length-map rs name_of
+    count = length-map rs name_of_recipe
 
     recipe_found : (path : Namepath) (j : ℕ) → place_in found (texts_of_path path) ≡ Some j → IsNameOf rs path j
     recipe_found path j e =
@@ -113,14 +113,14 @@ module _ (rs : List (Recipe UnresolvedDependency)) (it : Around) where
   pub near_only : AreDifferent (names_of rs) → (path : Namepath) (t : Target) (b : ℕ) → IsTarget rs it path t → IsNameOf rs path b → t ≡ Near b
   near_only different path (Near j) b n m =
       let e = sym n.named ∙ m.named in
-      let name : name_of (recipe_at rs j) ≡ name_of (recipe_at rs b) = cc in
+      let name : name_of_recipe (recipe_at rs j) ≡ name_of_recipe (recipe_at rs b) = cc in
       ap Near (one_place rs different j b n.there m.there name)
-  near_only different path (Far n) b e m = let wrong : Some (resolution.Resolved n) ≡ None = sym e ∙ nowhere it path (name_of (recipe_at rs b)) m.named in absurd (cc)
-  near_only different path (Gone set) b e m = let wrong : Some (resolution.Disabled set) ≡ None = sym e ∙ nowhere it path (name_of (recipe_at rs b)) m.named in absurd (cc)
+  near_only different path (Far n) b e m = let wrong : Some (resolution.Resolved n) ≡ None = sym e ∙ nowhere it path (name_of_recipe (recipe_at rs b)) m.named in absurd (cc)
+  near_only different path (Gone set) b e m = let wrong : Some (resolution.Disabled set) ≡ None = sym e ∙ nowhere it path (name_of_recipe (recipe_at rs b)) m.named in absurd (cc)
 
   -- what a walk finds that is disabled is gone
   pub gone_only : (path : Namepath) (t : Target) (set : BTreeSet Modulepath) → IsTarget rs it path t → found_by it path ≡ Some (resolution.Disabled set) → t ≡ Gone set
-  gone_only path (Near j) set n e = let wrong : Some (resolution.Disabled set) ≡ None = sym e ∙ nowhere it path (name_of (recipe_at rs j)) n.named in absurd (cc)
+  gone_only path (Near j) set n e = let wrong : Some (resolution.Disabled set) ≡ None = sym e ∙ nowhere it path (name_of_recipe (recipe_at rs j)) n.named in absurd (cc)
   gone_only path (Far m) set f e = let wrong = sym f ∙ e in absurd (cc)
   gone_only path (Gone other) set f e = let is = sym f ∙ e in let same : other ≡ set = cc in ap Gone same
 
@@ -129,13 +129,13 @@ module _ (rs : List (Recipe UnresolvedDependency)) (it : Around) where
   path_there r d c = contained d.recipe (named_paths r) (in_map (λ (x : UnresolvedDependency). x.recipe) d r.dependencies (is_in d r.dependencies c))
 
   -- a dependency that leads nowhere
-  pub is_unknown : (i : ℕ) (r : Recipe UnresolvedDependency) (d : UnresolvedDependency) (name : List ℕ) (unknown : Namepath) (place : Place) → i < length rs → r ≡ recipe_at rs i → Contains r.dependencies d → name ≡ name_of r → unknown ≡ d.recipe → place ≡ d.recipe.last.token
+  pub is_unknown : (i : ℕ) (r : Recipe UnresolvedDependency) (d : UnresolvedDependency) (name : List ℕ) (unknown : Namepath) (place : Place) → i < length rs → r ≡ recipe_at rs i → Contains r.dependencies d → name ≡ name_of_recipe r → unknown ≡ d.recipe → place ≡ d.recipe.last.token
       → (PathLeadsTo rs it d.recipe → ⊥) → Lost rs it (Broken place (kind.UnknownDependency name unknown))
   is_unknown i r d name unknown place h is c named copied told none =
       let by : DependsBy rs name unknown = record {
         from = i;
         there = h;
-        name_is = sym (named ∙ ap name_of is);
+        name_is = sym (named ∙ ap name_of_recipe is);
         depends = subst (Contains (named_paths (recipe_at rs i))) (sym copied) (subst (λ (x : Recipe UnresolvedDependency). Contains (named_paths x) d.recipe) is (path_there r d c));
       } in
       subst (λ x. Lost rs it (Broken x (kind.UnknownDependency name unknown))) (ap (λ (p : Namepath). p.last.token) copied ∙ sym told)

@@ -7,7 +7,7 @@ use Rattle.std.proofs.lemmas.List.Elements.{All-contains, All-get_or}
 use Rattle.just_graph.proofs.Members.{In, all_in, contained, is_in}
 use Rattle.just_graph.specs.Steps.{IsOnce}
 use Rattle.just_ast_definitions.specs.Parameter.{most_arguments}
-use Rattle.just_module_contents.specs.Recipes.{name_of, names_of, no_recipe, recipe_at}
+use Rattle.just_module_contents.specs.Recipes.{name_of_recipe, names_of, no_recipe, recipe_at}
 use Rattle.just_module_contents.specs.Resolved.{AreNew, HasPriors, path_to, unresolved_numbers}
 use Rattle.just_module_recipes.specs.Completing.{StandBeside, completion}
 use Rattle.just_module_recipes.specs.loops.Completing.{IsCompleting}
@@ -39,10 +39,10 @@ use Rattle.just_recipe.specs.declared.dependency.UnresolvedDependency.{Unresolve
 use Rattle.just_recipe.specs.declared.recipe.Recipe.{Recipe}
 
 module _ (rs : List (Recipe UnresolvedDependency)) (it : Around) (sets : List (BTreeSet Modulepath)) (exact : AreExact rs it sets) where
-  pub empty_stands : (i : ℕ) → i < length rs → keys_at sets i ≡ [] → Stands rs it (name_of (recipe_at rs i))
+  pub empty_stands : (i : ℕ) → i < length rs → keys_at sets i ≡ [] → Stands rs it (name_of_recipe (recipe_at rs i))
   empty_stands i h e p d = none_in (keys_at sets i) p e ((exact.exact i h p).1 d)
 
-  pub stands_empty : (i : ℕ) → i < length rs → Stands rs it (name_of (recipe_at rs i)) → keys_at sets i ≡ []
+  pub stands_empty : (i : ℕ) → i < length rs → Stands rs it (name_of_recipe (recipe_at rs i)) → keys_at sets i ≡ []
   stands_empty i h s = elim (empty_or (keys_at sets i)) [ inl f ↦ f | inr (p, m) ↦ absurd (s p ((exact.exact i h p).0 m)) ]
 
   module _ (different : AreDifferent (names_of rs)) (rows : List (List Target)) (are : AreRecipeRows rs it (length rs) rows) where
@@ -50,14 +50,14 @@ module _ (rs : List (Recipe UnresolvedDependency)) (it : Around) (sets : List (B
     pub exact_bars : (i : ℕ) → i < length rows → (p : Modulepath) → Contains (keys_at sets i) p ↔ Bars rows i p
     exact_bars i h p =
         let l : i < length rs = omega (arith, are.count) in (
-          (λ (c : Contains (keys_at sets i) p). disables_bars rs different it rows are (name_of (recipe_at rs i)) p ((exact.exact i l p).0 c) i l refl),
+          (λ (c : Contains (keys_at sets i) p). disables_bars rs different it rows are (name_of_recipe (recipe_at rs i)) p ((exact.exact i l p).0 c) i l refl),
           (λ (b : Bars rows i p). (exact.exact i l p).1 (bars_disables rs different it rows are i p l b)),
         )
 
     near_empty : (i j : ℕ) → i < length rs → keys_at sets i ≡ [] → Contains (get_or rows i []) (Near j) → keys_at sets j ≡ []
     near_empty i j h e c =
         let s = row_steps rs different it rows are i j h (near_has (get_or rows i []) j c) in
-        stands_empty j s.there (λ p d. empty_stands i h e p (by_recipe (name_of (recipe_at rs j)) (record { from = i; to = j; step = s; dependent_is = refl; name_is = refl }) d))
+        stands_empty j s.there (λ p d. empty_stands i h e p (by_recipe (name_of_recipe (recipe_at rs j)) (record { from = i; to = j; step = s; dependent_is = refl; name_is = refl }) d))
 
     module _ (settled : AreSettled it) where
       is_there : (i : ℕ) → i < length rs → keys_at sets i ≡ [] → (t : Target) → Contains (get_or rows i []) t → IsThere rs it.held t

@@ -7,10 +7,10 @@ use Rattle.std.proofs.lemmas.List.{get_or_default, length-map, length-take-le, t
 use Rattle.std.proofs.lemmas.List.Elements.{All-contains}
 use Rattle.just_graph.proofs.Members.{In, all_in, contained, from_flat, from_map, in_cases, in_flat, in_right, is_in}
 use Rattle.just_graph.specs.Steps.{IsOnce, in_take}
-use Rattle.just_module_contents.specs.Recipes.{name_of, recipe_at}
+use Rattle.just_module_contents.specs.Recipes.{name_of_recipe, recipe_at}
 use Rattle.just_module_contents.specs.Resolved.{AreNew, number_at, path_to, unresolved_numbers}
 use Rattle.just_module_recipes.specs.loops.Completing.{IsCompleting}
-use Rattle.just_module_recipes.specs.loops.Making.{AreAllThere, IsThere, SoFar, link_of, links_of, made, made_of, number_of, parameters_in, parameters_of, settled_of}
+use Rattle.just_module_recipes.specs.loops.Making.{AreAllThere, IsThere, SoFar, link_of, links_of, made, made_of, target_number, parameters_in, parameters_of, settled_of}
 use Rattle.just_module_recipes.specs.Rows.{keys_at}
 use Rattle.just_module_recipes.specs.loops.Rows.{Bars, IsOrderOf, through}
 use Rattle.just_module_recipes.specs.declared.targets.Target.{Target}
@@ -37,7 +37,7 @@ links_more : (lists : Bool) (rs : List (Recipe UnresolvedDependency)) (old ys : 
 links_more lists rs old ys [] ts h = refl
 links_more lists rs old ys (d ∷ ds) [] h = refl
 links_more lists rs old ys (d ∷ ds) (t ∷ ts) h =
-    ap (λ ps. let l : Dependency = record { arguments = grouped lists ps d.arguments; path = d.recipe; recipe = number_of rs t } in l ∷ links_of lists rs (old ++ ys) ds ts) (parameters_more rs old ys t (h t (inl refl)))
+    ap (λ ps. let l : Dependency = record { arguments = grouped lists ps d.arguments; path = d.recipe; recipe = target_number rs t } in l ∷ links_of lists rs (old ++ ys) ds ts) (parameters_more rs old ys t (h t (inl refl)))
     ∙ ap (λ ls. link_of lists rs old d t ∷ ls) (links_more lists rs old ys ds ts (λ u k. h u (inr k)))
 
 pub links_length : (lists : Bool) (rs : List (Recipe UnresolvedDependency)) (held : List (Recipe Dependency)) (ds : List UnresolvedDependency) (ts : List Target) → length ts ≡ length ds → length (links_of lists rs held ds ts) ≡ length ds
@@ -46,20 +46,20 @@ links_length lists rs held (d ∷ ds) [] e = absurd (omega arith)
 links_length lists rs held (d ∷ ds) (t ∷ ts) e = ap suc (links_length lists rs held ds ts (omega arith))
 
 -- the numbers that links lead to
-pub links_numbers : (lists : Bool) (rs : List (Recipe UnresolvedDependency)) (held : List (Recipe Dependency)) (ds : List UnresolvedDependency) (ts : List Target) → length ts ≡ length ds → map (λ (d : Dependency). d.recipe.0) (links_of lists rs held ds ts) ≡ map (λ t. (number_of rs t).0) ts
+pub links_numbers : (lists : Bool) (rs : List (Recipe UnresolvedDependency)) (held : List (Recipe Dependency)) (ds : List UnresolvedDependency) (ts : List Target) → length ts ≡ length ds → map (λ (d : Dependency). d.recipe.0) (links_of lists rs held ds ts) ≡ map (λ t. (target_number rs t).0) ts
 links_numbers lists rs held [] [] e = refl
 links_numbers lists rs held [] (t ∷ ts) e = absurd (omega arith)
 links_numbers lists rs held (d ∷ ds) [] e = absurd (omega arith)
-links_numbers lists rs held (d ∷ ds) (t ∷ ts) e = ap (λ ns. (number_of rs t).0 ∷ ns) (links_numbers lists rs held ds ts (omega arith))
+links_numbers lists rs held (d ∷ ds) (t ∷ ts) e = ap (λ ns. (target_number rs t).0 ∷ ns) (links_numbers lists rs held ds ts (omega arith))
 
 -- what a recipe that is made needs
 pub needs_made : (by : Recipe UnresolvedDependency → Recipe UnresolvedDependency) (needed : List (List Number)) (lists : Bool) (rs : List (Recipe UnresolvedDependency)) (held : List (Recipe Dependency)) (path : Modulepath) (r : Recipe UnresolvedDependency) (has : List Number) (row : List Target) (m : Recipe Dependency) → m ≡ made_of by needed lists rs held path r has row → length row ≡ length (by r).dependencies
-    → All (λ t. Contains (numbers held) (number_of rs t).0) row → All (Contains (numbers held)) (needs m)
+    → All (λ t. Contains (numbers held) (target_number rs t).0) row → All (Contains (numbers held)) (needs m)
 needs_made by needed lists rs held path r has row m e count all =
-    let is : needs m ≡ map (λ t. (number_of rs t).0) row = ap needs e ∙ links_numbers lists rs held (by r).dependencies row count in
-    subst (All (Contains (numbers held))) (sym is) (all_in (Contains (numbers held)) (map (λ t. (number_of rs t).0) row) (λ n h.
-    let t = from_map (λ t. (number_of rs t).0) n row h in
-    subst (Contains (numbers held)) (sym t.2) (All-contains (λ t. Contains (numbers held) (number_of rs t).0) row t.0 all (contained t.0 row t.1))))
+    let is : needs m ≡ map (λ t. (target_number rs t).0) row = ap needs e ∙ links_numbers lists rs held (by r).dependencies row count in
+    subst (All (Contains (numbers held))) (sym is) (all_in (Contains (numbers held)) (map (λ t. (target_number rs t).0) row) (λ n h.
+    let t = from_map (λ t. (target_number rs t).0) n row h in
+    subst (Contains (numbers held)) (sym t.2) (All-contains (λ t. Contains (numbers held) (target_number rs t).0) row t.0 all (contained t.0 row t.1))))
 
 -- one more link
 links_push : (lists : Bool) (rs : List (Recipe UnresolvedDependency)) (held : List (Recipe Dependency)) (ds : List UnresolvedDependency) (ts : List Target) (d : UnresolvedDependency) (t : Target) → length ts ≡ length ds → links_of lists rs held (ds ++ d ∷ []) (ts ++ t ∷ []) ≡ links_of lists rs held ds ts ++ link_of lists rs held d t ∷ []
@@ -172,7 +172,7 @@ module _ (by : Recipe UnresolvedDependency → Recipe UnresolvedDependency) (com
 
         module _ (n : ℕ) (h : n < length order) (new : List (Recipe Dependency)) (s : SoFar by needed lists rs path rows sets order n old new) where
           -- its numbers are held
-          number_held : (t : Target) → keys_at sets (slice_index order n) ≡ [] → Contains (get_or rows (slice_index order n) []) t → Contains (numbers new) (number_of rs t).0
+          number_held : (t : Target) → keys_at sets (slice_index order n) ≡ [] → Contains (get_or rows (slice_index order n) []) t → Contains (numbers new) (target_number rs t).0
           number_held (Near j) e c =
               let place : ℕ = slice_index order n in
               let b = in_take order n j (omega arith) (o.first n j h (near_has (get_or rows place []) j c)) in
@@ -183,8 +183,8 @@ module _ (by : Recipe UnresolvedDependency → Recipe UnresolvedDependency) (com
               subst (λ xs. Contains (numbers xs) m.0) (sym s.new_is) (held_more old (made by needed lists rs old path rows sets (take n order)) m.0 (held_there old m.0 is))
           number_held (Gone set) e c = absurd (All-contains (IsThere rs old) (get_or rows (slice_index order n) []) (Gone set) (there (slice_index order n) (o.below n h) e) c)
 
-          pub numbers_held : keys_at sets (slice_index order n) ≡ [] → All (λ t. Contains (numbers new) (number_of rs t).0) (get_or rows (slice_index order n) [])
-          numbers_held e = all_in (λ t. Contains (numbers new) (number_of rs t).0) (get_or rows (slice_index order n) []) (λ t k. number_held t e (contained t (get_or rows (slice_index order n) []) k))
+          pub numbers_held : keys_at sets (slice_index order n) ≡ [] → All (λ t. Contains (numbers new) (target_number rs t).0) (get_or rows (slice_index order n) [])
+          numbers_held e = all_in (λ t. Contains (numbers new) (target_number rs t).0) (get_or rows (slice_index order n) []) (λ t k. number_held t e (contained t (get_or rows (slice_index order n) []) k))
 
           -- what is there stays there
           there_more : (ys : List (Recipe Dependency)) (t : Target) → IsThere rs old t → IsThere rs (old ++ ys) t
@@ -200,7 +200,7 @@ module _ (by : Recipe UnresolvedDependency → Recipe UnresolvedDependency) (com
           settled_more ys [] e =
               let place : ℕ = slice_index order n in
               let each : (t : Target) → In t (get_or rows place []) → IsThere rs old t = (λ t k. All-contains (IsThere rs old) (get_or rows place []) t (there place (o.below n h) (sym e)) (contained t (get_or rows place []) k)) in
-              ap (λ (ls : List Dependency). record (resolved (by (recipe_at rs place)) ls path (path_to path (name_of (recipe_at rs place)))) { variable_references = get_or needed place [] } ∷ []) (links_more lists rs old ys (by (recipe_at rs place)).dependencies (get_or rows place []) each)
+              ap (λ (ls : List Dependency). record (resolved (by (recipe_at rs place)) ls path (path_to path (name_of_recipe (recipe_at rs place)))) { variable_references = get_or needed place [] } ∷ []) (links_more lists rs old ys (by (recipe_at rs place)).dependencies (get_or rows place []) each)
           settled_more ys (p ∷ ps) e = refl
 
           made_is : made by needed lists rs old path rows sets (take (n + 1) order) ≡ made by needed lists rs old path rows sets (take n order) ++ settled_of by needed lists rs old path (get_or rows (slice_index order n) []) (keys_at sets (slice_index order n)) (slice_index order n)

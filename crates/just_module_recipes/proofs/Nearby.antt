@@ -5,7 +5,7 @@ use Rattle.std.specs.BTreeSet.{BTreeSet}
 use Rattle.std.proofs.lemmas.List.Elements.{All-nil, All-cons, All-contains}
 use Rattle.just_graph.proofs.Members.{In, contained, is_in}
 use Rattle.just_module_recipes.specs.Rows.{keys_at}
-use Rattle.just_module_recipes.specs.loops.Rows.{gathered, near}
+use Rattle.just_module_recipes.specs.loops.Rows.{gathered_paths, near}
 use Rattle.just_module_recipes.specs.declared.targets.Target.{Target}
 use Rattle.just_module_recipes.specs.declared.targets.Target.TheVariants.{Near, Far, Gone}
 use Rattle.just_module_recipes.proofs.SameSets.{taken}
@@ -20,14 +20,14 @@ near-append (Gone ps ∷ xs) ys = near-append xs ys
 pub near_next : (ts : List Target) (i : ℕ) (x : Target) → i < length ts → x ≡ get_or ts i x → near (take (i + 1) ts) ≡ near (take i ts) ++ near (x ∷ [])
 near_next ts i x h is = ap near (taken ts i x h is) ∙ near-append (take i ts) (x ∷ [])
 
-pub gathered-append : (sets : List (BTreeSet Modulepath)) (xs ys : List Target) → gathered sets (xs ++ ys) ≡ gathered sets xs ++ gathered sets ys
+pub gathered-append : (sets : List (BTreeSet Modulepath)) (xs ys : List Target) → gathered_paths sets (xs ++ ys) ≡ gathered_paths sets xs ++ gathered_paths sets ys
 gathered-append sets [] ys = refl
-gathered-append sets (Near j ∷ xs) ys = ap (λ zs. keys_at sets j ++ zs) (gathered-append sets xs ys) ∙ sym (append_assoc (keys_at sets j) (gathered sets xs) (gathered sets ys))
+gathered-append sets (Near j ∷ xs) ys = ap (λ zs. keys_at sets j ++ zs) (gathered-append sets xs ys) ∙ sym (append_assoc (keys_at sets j) (gathered_paths sets xs) (gathered_paths sets ys))
 gathered-append sets (Far n ∷ xs) ys = gathered-append sets xs ys
-gathered-append sets (Gone ps ∷ xs) ys = ap (λ zs. ps.keys ++ zs) (gathered-append sets xs ys) ∙ sym (append_assoc ps.keys (gathered sets xs) (gathered sets ys))
+gathered-append sets (Gone ps ∷ xs) ys = ap (λ zs. ps.keys ++ zs) (gathered-append sets xs ys) ∙ sym (append_assoc ps.keys (gathered_paths sets xs) (gathered_paths sets ys))
 
-pub gathered_next : (sets : List (BTreeSet Modulepath)) (ts : List Target) (i : ℕ) (x : Target) → i < length ts → x ≡ get_or ts i x → gathered sets (take (i + 1) ts) ≡ gathered sets (take i ts) ++ gathered sets (x ∷ [])
-gathered_next sets ts i x h is = ap (gathered sets) (taken ts i x h is) ∙ gathered-append sets (take i ts) (x ∷ [])
+pub gathered_next : (sets : List (BTreeSet Modulepath)) (ts : List Target) (i : ℕ) (x : Target) → i < length ts → x ≡ get_or ts i x → gathered_paths sets (take (i + 1) ts) ≡ gathered_paths sets (take i ts) ++ gathered_paths sets (x ∷ [])
+gathered_next sets ts i x h is = ap (gathered_paths sets) (taken ts i x h is) ∙ gathered-append sets (take i ts) (x ∷ [])
 
 in-near : (ts : List Target) (j : ℕ) → In (Near j) ts → In j (near ts)
 in-near [] j h = h

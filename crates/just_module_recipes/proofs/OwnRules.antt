@@ -5,7 +5,7 @@ use Rattle.std.proofs.lemmas.List.{get_or_default}
 use Rattle.just_errors.specs.Causes.{Cause, Keeps}
 use Rattle.just_graph.proofs.Members.{contained, is_in}
 use Rattle.just_module_contents.proofs.StandingOnes.{standing_in, stays}
-use Rattle.just_module_contents.specs.Recipes.{name_of, no_recipe, recipe_at}
+use Rattle.just_module_contents.specs.Recipes.{name_of_recipe, no_recipe, recipe_at}
 use Rattle.just_module_contents.specs.Standing.{AreStanding, InStanding, in_recipe, of_standing}
 use Rattle.just_module_recipes.specs.loops.Completed.{OfUndisabled, of_one}
 use Rattle.just_module_recipes.specs.Links.{Around, Stands}
@@ -26,7 +26,7 @@ module _ (rs : List (Recipe UnresolvedDependency)) (it : Around) (sets : List (B
       let s = standing_in are r (is_in r ss (k, h, get_or_default ss k r no_recipe h)) in
       let i = contained r rs s.0 in
       let is : recipe_at rs i.0 ≡ r = get_or_default rs i.0 no_recipe r i.1 ∙ i.2 in
-      each i.0 i.1 (stands_empty rs it sets exact i.0 i.1 (subst (λ (x : Recipe UnresolvedDependency). Stands rs it (name_of x)) (sym is) s.1)) c (subst (λ x. rule x c) (sym is) b)
+      each i.0 i.1 (stands_empty rs it sets exact i.0 i.1 (subst (λ (x : Recipe UnresolvedDependency). Stands rs it (name_of_recipe x)) (sym is) s.1)) c (subst (λ x. rule x c) (sym is) b)
 
   -- what is told of such a place is told of one that stands
   pub own_told : (c : Cause) → OfUndisabled rule rs sets c → InStanding (Stands rs it) rule rs c

@@ -6,14 +6,14 @@ use Rattle.std.proofs.lemmas.Option.{get_or_from_slice_get, slice_get_within}
 use Rattle.std.proofs.Math.Seq.{drop-cons}
 use Rattle.just_graph.proofs.Members.{contained}
 use Rattle.just_justfile.specs.declared.disabled.Disabled.{Disabled}
-use Rattle.just_module_contents.specs.Recipes.{name_of, no_recipe}
+use Rattle.just_module_contents.specs.Recipes.{name_of_recipe, no_recipe}
 use Rattle.just_module_contents.specs.Standing.{AreStanding, falls, none, stands}
 use Rattle.just_module_recipes.specs.Linked.{AreDisabled, HasDisabled}
 use Rattle.just_module_recipes.specs.Linked as linked
 use Rattle.just_module_recipes.specs.Links.{Around, Disables, Stands}
 use Rattle.just_module_recipes.specs.Making.{standing, standing_by}
 use Rattle.just_module_recipes.specs.loops.Making.{AreExact, fallen, fallen_by}
-use Rattle.just_module_recipes.specs.Rows.{no_set}
+use Rattle.just_module_recipes.specs.Rows.{no_paths}
 use Rattle.just_module_recipes.proofs.Held.{none_in}
 use Rattle.just_names.specs.Texts.{Text}
 use Rattle.just_paths.specs.declared.modulepath.Modulepath.{Modulepath}
@@ -45,15 +45,15 @@ module _ (ss rest : List (BTreeSet Modulepath)) (rs : List Source) (at : ℕ) (s
 module _ (Falls : Text → Modulepath → Type 0) where
   -- a set is exactly what disables a recipe
   abbrev Tells : BTreeSet Modulepath → Source → Type 0
-  Tells s r = (p : Modulepath) → Contains s.keys p ↔ Falls (name_of r) p
+  Tells s r = (p : Modulepath) → Contains s.keys p ↔ Falls (name_of_recipe r) p
 
-  told_all : (ss : List (BTreeSet Modulepath)) (rs : List Source) → length ss ≡ length rs → ((i : ℕ) → i < length rs → Tells (get_or ss i no_set) (get_or rs i no_recipe)) → AllZip Tells ss rs
+  told_all : (ss : List (BTreeSet Modulepath)) (rs : List Source) → length ss ≡ length rs → ((i : ℕ) → i < length rs → Tells (get_or ss i no_paths) (get_or rs i no_recipe)) → AllZip Tells ss rs
   told_all [] [] e t = tt
   told_all [] (r ∷ rs) e t = absurd (omega arith)
   told_all (s ∷ ss) [] e t = absurd (omega arith)
   told_all (s ∷ ss) (r ∷ rs) e t = (t 0 (omega arith), told_all ss rs (omega arith) (λ i h. t (suc i) (omega arith)))
 
-  stands_one : (ks : List Modulepath) (r : Source) (rs xs : List Source) → ((p : Modulepath) → Contains ks p ↔ Falls (name_of r) p) → AreStanding (λ name. (p : Modulepath) → Falls name p → ⊥) rs xs → AreStanding (λ name. (p : Modulepath) → Falls name p → ⊥) (r ∷ rs) (standing_by ks r ++ xs)
+  stands_one : (ks : List Modulepath) (r : Source) (rs xs : List Source) → ((p : Modulepath) → Contains ks p ↔ Falls (name_of_recipe r) p) → AreStanding (λ name. (p : Modulepath) → Falls name p → ⊥) rs xs → AreStanding (λ name. (p : Modulepath) → Falls name p → ⊥) (r ∷ rs) (standing_by ks r ++ xs)
   stands_one [] r rs xs t a = stands (λ p f. none_in [] p refl ((t p).1 f)) a
   stands_one (k ∷ ks) r rs xs t a = falls (λ s. s k ((t k).0 (contained k (k ∷ ks) (inl refl)))) a
 

@@ -7,7 +7,7 @@ use Rattle.std.specs.declared.alloc.Global.{Global}
 use Rattle.just_graph.specs.Graph.{HasEdge, IsGraph, targets}
 use Rattle.just_graph.specs.Building.{EachRow, targets_past}
 use Rattle.just_graph.proofs.Members.{contained, from_map, in_map, is_in}
-use Rattle.just_module_contents.specs.Recipes.{Depends, dependency_paths, name_of, names_of, recipe_at}
+use Rattle.just_module_contents.specs.Recipes.{Depends, dependency_paths, name_of_recipe, names_of, recipe_at}
 use Rattle.just_module_recipes.specs.Links.{Around, IsNameOf}
 use Rattle.just_module_recipes.specs.loops.Rows.{AreRecipeRows, IsTargetOf, near}
 use Rattle.just_module_recipes.specs.declared.targets.Target.{Target}
@@ -39,7 +39,7 @@ module _ (rs : List (Recipe UnresolvedDependency)) (different : AreDifferent (na
 
   pub steps_row : (a b : ℕ) → Depends rs a b → Contains (near (get_or rows a [])) b
   steps_row a b s =
-      let d = from_map (λ (d : UnresolvedDependency). texts_of_path d.recipe) (name_of (recipe_at rs b) ∷ []) (recipe_at rs a).dependencies (is_in (name_of (recipe_at rs b) ∷ []) (dependency_paths (recipe_at rs a)) s.names) in
+      let d = from_map (λ (d : UnresolvedDependency). texts_of_path d.recipe) (name_of_recipe (recipe_at rs b) ∷ []) (recipe_at rs a).dependencies (is_in (name_of_recipe (recipe_at rs b) ∷ []) (dependency_paths (recipe_at rs a)) s.names) in
       let t = zip_forth (IsTargetOf rs it) (recipe_at rs a).dependencies (get_or rows a []) d.0 (are.each a s.dependent) d.1 in
       let e : t.0 ≡ Near b = near_only rs it different d.0.recipe t.0 b t.2 (record { there = s.there; named = sym d.2 }) in
       near_has (get_or rows a []) b (subst (Contains (get_or rows a [])) e (contained t.0 (get_or rows a []) t.1))

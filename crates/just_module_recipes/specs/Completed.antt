@@ -18,7 +18,7 @@ use Rattle.just_paths.specs.declared.modulepath.Modulepath.{Modulepath}
 use Rattle.just_recipe.specs.declared.dependency.UnresolvedDependency.{UnresolvedDependency}
 use Rattle.just_recipe.specs.declared.recipe.Recipe.{Recipe}
 use Rattle.just_recipe_names.specs.Numbered.{numbered_by}
-use Rattle.just_recipe_values.specs.Among.{CoversRecipe, value_of}
+use Rattle.just_recipe_values.specs.Among.{CoversRecipe, value_in_module}
 use Rattle.just_recipe_values.specs.Valued.{with_values}
 use Rattle.std.specs.BTreeSet.{BTreeSet}
 
@@ -30,7 +30,7 @@ with_needed r numbers = record r { variable_references = numbers }
 module _ {S E : Type 0} (answers : SyntaxAnswers) (evaluator : Evaluator) (it : Completing S E) where
   -- the value of an expression among the constants
   abbrev pub value_here : Expression → Option (List Text)
-  value_here = value_of evaluator it.among
+  value_here = value_in_module evaluator it.among
 
   -- a recipe with the numbers of what names mean in it, and with what its doc, helps and patterns come to
   abbrev pub completed_by : Recipe UnresolvedDependency → Recipe UnresolvedDependency

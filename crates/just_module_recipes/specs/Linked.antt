@@ -4,7 +4,7 @@ use Rattle.std.specs.BTreeSet.{BTreeSet}
 use Rattle.std.specs.List.{All, AllZip, Contains}
 use Rattle.just_justfile.specs.declared.disabled.Disabled.{Disabled}
 use Rattle.just_justfile.specs.declared.resolution.Resolution.TheVariants as resolution
-use Rattle.just_module_contents.specs.Recipes.{name_of, recipe_at}
+use Rattle.just_module_contents.specs.Recipes.{name_of_recipe, recipe_at}
 use Rattle.just_module_contents.specs.Resolved.{IsResolvedAt, number_at}
 use Rattle.just_module_recipes.specs.Completing.{Completion}
 use Rattle.just_module_recipes.specs.Links.{Around, IsNameOf, Stands, found_by}
@@ -50,12 +50,12 @@ module _ (Stands : Text → Type 0) (HasNumber : Namepath → Number → Type 0)
   -- the recipe at a place stands, and this is made of it
   pub record IsMadeAt (recipes : List (Recipe UnresolvedDependency)) (path : Modulepath) (i : ℕ) (made : Recipe Dependency) : Type 0 where
     pub there : i < length recipes
-    pub stands : Stands (name_of (recipe_at recipes i))
+    pub stands : Stands (name_of_recipe (recipe_at recipes i))
     pub made_of : IsMadeOf path (recipe_at recipes i) made
 
   -- What is added: what is made of exactly the recipes that stand, each of which is found under its number.
   pub record AreLinked (recipes : List (Recipe UnresolvedDependency)) (path : Modulepath) (added : List (Recipe Dependency)) : Type 0 where
-    pub each : (i : ℕ) → i < length recipes → Stands (name_of (recipe_at recipes i)) → (made : Recipe Dependency) × (find_number all (number_at recipes i) ≡ Some made) × IsMadeAt recipes path i made
+    pub each : (i : ℕ) → i < length recipes → Stands (name_of_recipe (recipe_at recipes i)) → (made : Recipe Dependency) × (find_number all (number_at recipes i) ≡ Some made) × IsMadeAt recipes path i made
     pub only : (made : Recipe Dependency) → Contains added made → (i : ℕ) × IsMadeAt recipes path i made
     pub resolved : All IsResolved added
 
@@ -68,8 +68,8 @@ pub record AddsLinked (completed : Completion) (lists : Bool) (recipes : List (R
 -- Of recipes those that something disables, in order, each with exactly the paths that do.
 pub data AreDisabled (Disables : Text → Modulepath → Type 0) : List (Recipe UnresolvedDependency) → List Disabled → Type 0 where
   none : AreDisabled Disables [] []
-  stands : {r : Recipe UnresolvedDependency} {rs : List (Recipe UnresolvedDependency)} {ds : List Disabled} → ((path : Modulepath) → Disables (name_of r) path → ⊥) → AreDisabled Disables rs ds → AreDisabled Disables (r ∷ rs) ds
-  falls : {r : Recipe UnresolvedDependency} {rs : List (Recipe UnresolvedDependency)} {d : Disabled} {ds : List Disabled} → d.name ≡ r.name → d.modules.keys ≢ [] → ((path : Modulepath) → Contains d.modules.keys path ↔ Disables (name_of r) path)
+  stands : {r : Recipe UnresolvedDependency} {rs : List (Recipe UnresolvedDependency)} {ds : List Disabled} → ((path : Modulepath) → Disables (name_of_recipe r) path → ⊥) → AreDisabled Disables rs ds → AreDisabled Disables (r ∷ rs) ds
+  falls : {r : Recipe UnresolvedDependency} {rs : List (Recipe UnresolvedDependency)} {d : Disabled} {ds : List Disabled} → d.name ≡ r.name → d.modules.keys ≢ [] → ((path : Modulepath) → Contains d.modules.keys path ↔ Disables (name_of_recipe r) path)
       → AreDisabled Disables rs ds → AreDisabled Disables (r ∷ rs) (d ∷ ds)
 
 abbrev pub name_of_disabled : Disabled → Text

@@ -17,7 +17,7 @@ use Rattle.just_module_contents.specs.Defaults.{BreaksDefaults}
 use Rattle.just_module_contents.specs.Kept.{kept_recipes}
 use Rattle.just_module_contents.specs.Known.{known_of}
 use Rattle.just_module_contents.specs.RecipeValues.{BreaksRecipe, IsPastLimits}
-use Rattle.just_module_contents.specs.Recipes.{DependsOnRecipe, name_of, recipe_at}
+use Rattle.just_module_contents.specs.Recipes.{DependsOnRecipe, name_of_recipe, recipe_at}
 use Rattle.just_module_contents.specs.Rules.{BreaksAliasTargets, Dependencies, DependsBy}
 use Rattle.just_module_contents.specs.Standing.{AreStanding, InStanding}
 use Rattle.just_names.specs.Name.{texts_of_path}
@@ -37,8 +37,8 @@ pub record Around : Type 0 where
   pub modules : List Justfile
   pub held : List (Recipe Dependency)
 
-abbrev pub around : List (Text × Text) → List Justfile → List (Recipe Dependency) → Around
-around absent modules held = record { absent = absent; modules = modules; held = held }
+abbrev pub around_recipes : List (Text × Text) → List Justfile → List (Recipe Dependency) → Around
+around_recipes absent modules held = record { absent = absent; modules = modules; held = held }
 
 -- what a path leads to through the modules; nothing where it has one name
 abbrev pub found_by : Around → Namepath → Option (Resolution Number)
@@ -47,7 +47,7 @@ found_by it path = resolved_recipe it.absent [] it.modules [] path
 -- the path is the name of the recipe at a place
 pub record IsNameOf (recipes : List (Recipe UnresolvedDependency)) (path : Namepath) (j : ℕ) : Type 0 where
   pub there : j < length recipes
-  pub named : texts_of_path path ≡ name_of (recipe_at recipes j) ∷ []
+  pub named : texts_of_path path ≡ name_of_recipe (recipe_at recipes j) ∷ []
 
 -- A path leads to a recipe of the module, or through the modules.
 pub data PathLeadsTo (recipes : List (Recipe UnresolvedDependency)) (it : Around) (path : Namepath) : Type 0 where
@@ -80,17 +80,17 @@ abbrev pub BreaksLinks : Bool → List (Recipe UnresolvedDependency) → Around 
 BreaksLinks lists recipes it = Dependencies (PathLeadsTo recipes it) (Stands recipes it) (Takes lists recipes it) lists recipes
 
 -- the value of an expression among the constants of a module
-abbrev pub value_by : Layers → Evaluated → Contents → Expression → Option (List Text)
-value_by layers evaluated m = value_among layers.evaluator m evaluated.constants
+abbrev pub value_by_layers : Layers → Evaluated → Contents → Expression → Option (List Text)
+value_by_layers layers evaluated m = value_among layers.evaluator m evaluated.constants
 
 -- a rule of one recipe is broken by one of a module's kept recipes that stands
 abbrev pub BreaksStanding : Layers → Evaluated → Contents → Around → Cause → Type 0
 BreaksStanding layers evaluated m it =
-    InStanding (Stands (kept_recipes m.recipes) it) (BreaksRecipe (value_by layers evaluated m) layers.syntax (known_of layers.syntax m) evaluated.settings) (kept_recipes m.recipes)
+    InStanding (Stands (kept_recipes m.recipes) it) (BreaksRecipe (value_by_layers layers evaluated m) layers.syntax (known_of layers.syntax m) evaluated.settings) (kept_recipes m.recipes)
 
 -- a pattern of one of these is past the size or the nesting that regular expressions may have
 abbrev pub IsPastLimitsBy : Layers → Evaluated → Contents → Around → Cause → Type 0
-IsPastLimitsBy layers evaluated m it = InStanding (Stands (kept_recipes m.recipes) it) (IsPastLimits (value_by layers evaluated m)) (kept_recipes m.recipes)
+IsPastLimitsBy layers evaluated m it = InStanding (Stands (kept_recipes m.recipes) it) (IsPastLimits (value_by_layers layers evaluated m)) (kept_recipes m.recipes)
 
 -- The target of an alias leads to a module, or to a recipe.
 pub data HasTarget (recipes : List (Recipe UnresolvedDependency)) (it : Around) (path : Namepath) : Type 0 where

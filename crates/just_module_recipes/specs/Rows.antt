@@ -4,8 +4,8 @@ use Rattle.std.specs.BTreeSet.{BTreeSet}
 use Rattle.just_paths.specs.declared.modulepath.Modulepath.{Modulepath}
 
 -- the set at a place
-abbrev pub no_set : BTreeSet Modulepath
-no_set = record { keys = [] }
+abbrev pub no_paths : BTreeSet Modulepath
+no_paths = record { keys = [] }
 
 abbrev pub keys_at : List (BTreeSet Modulepath) → ℕ → List Modulepath
-keys_at sets i = (get_or sets i no_set).keys
+keys_at sets i = (get_or sets i no_paths).keys

@@ -4,7 +4,7 @@ ghost use Rattle.std.specs.List.{All};
 ghost use Rattle.just_ast_definitions.specs.Parameter.{least_arguments, most_arguments};
 ghost use Rattle.just_errors.specs.Causes.{Keeps, Reports};
 ghost use Rattle.just_module_contents.specs.Definitions.{recipes_in};
-ghost use Rattle.just_module_contents.specs.Recipes.{name_of, names_of, recipe_at};
+ghost use Rattle.just_module_contents.specs.Recipes.{name_of_recipe, names_of, recipe_at};
 ghost use Rattle.just_module_contents.specs.Rules.{IsOutside, StandsWith};
 ghost use Rattle.just_module_recipes.specs.Given.{Misgiven};
 ghost use Rattle.just_module_recipes.specs.Links.{BreaksLinks, Stands};
@@ -108,7 +108,7 @@ fn check_dependencies<'a, 's, 'src>(
     requires place { place < length kept.now.recipes.items }
     requires row { AreTargets (recipes_in kept.now) (around_by it.now) (recipe_at (recipes_in kept.now) place).dependencies row.now }
     requires there { All (IsThere (recipes_in kept.now) it.now.recipes.now) row.now }
-    requires stands { Stands (recipes_in kept.now) (around_by it.now) (name_of (recipe_at (recipes_in kept.now) place)) }
+    requires stands { Stands (recipes_in kept.now) (around_by it.now) (name_of_recipe (recipe_at (recipes_in kept.now) place)) }
     ensures given { OnOk result (AreGivenAt settings.now.lists (recipes_in kept.now) (around_by it.now) place) }
     ensures named { IfErr result (Reports (BreaksLinks settings.now.lists (recipes_in kept.now) (around_by it.now))) }
 {

@@ -11,7 +11,7 @@ ghost use Rattle.just_module_contents.specs.Resolved.{AreNew, HasPriors, unresol
 ghost use Rattle.just_module_contents.specs.Standing.{AreStanding, InStanding};
 ghost use Rattle.just_module_recipes.specs.Completed.{BreaksOne, CoversRecipes, TellsLinks, TellsOne, completion_of};
 ghost use Rattle.just_module_recipes.specs.Linked.{AddsLinked, AreSettled, HasDisabled};
-ghost use Rattle.just_module_recipes.specs.Links.{BreaksLinks, Disables, Stands, around};
+ghost use Rattle.just_module_recipes.specs.Links.{BreaksLinks, Disables, Stands, around_recipes};
 ghost use Rattle.just_module_recipes.specs.Making.{standing, standing_by};
 ghost use Rattle.just_module_recipes.specs.loops.Making.{fallen, fallen_by};
 ghost use Rattle.just_module_recipes.specs.loops.Planned.{IsPlan};
@@ -150,27 +150,27 @@ pub fn link<'a, 'm, 'src, S: Syntax, E: ConstantEvaluation>(
     requires priors { All HasPriors (recipes_in kept.now) }
     requires apart { AreNew recipes (recipes_in kept.now) }
     requires ordered { AreOrdered modules.now }
-    requires settled { AreSettled (around absent.now modules.now recipes) }
+    requires settled { AreSettled (around_recipes absent.now modules.now recipes) }
     requires references { length completing.now.references.now ≡ length kept.now.recipes.items }
     requires covered { CoversRecipes completing.now (recipes_in kept.now) }
-    ensures kept { let it = around absent.now modules.now recipes.entry in
+    ensures kept { let it = around_recipes absent.now modules.now recipes.entry in
         IfOk result (λ _. Keeps (BreaksLinks completing.now.meanings.settings.now.lists (recipes_in kept.now) it)) }
     ensures own { let it = completing.now in
         let rule = BreaksOne (S.answers it.meanings.syntax.now) (E.answers it.among.evaluation.now) it in
-        let stands = Stands (recipes_in kept.now) (around absent.now modules.now recipes.entry) in
+        let stands = Stands (recipes_in kept.now) (around_recipes absent.now modules.now recipes.entry) in
         IfOk result (λ _. Keeps (InStanding stands rule (recipes_in kept.now))) }
-    ensures standing { let it = around absent.now modules.now recipes.entry in
+    ensures standing { let it = around_recipes absent.now modules.now recipes.entry in
         IfOk result (λ made. AreStanding (Stands (recipes_in kept.now) it) (recipes_in kept.now) (recipes_in made.standing)) }
-    ensures disabled { let it = around absent.now modules.now recipes.entry in
+    ensures disabled { let it = around_recipes absent.now modules.now recipes.entry in
         IfOk result (λ made. HasDisabled (Disables (recipes_in kept.now) it) (recipes_in kept.now) made.disabled) }
     ensures linked { let it = completing.now in
         let done = completion_of (S.answers it.meanings.syntax.now) (E.answers it.among.evaluation.now) it (recipes_in kept.now) in
-        let adds = AddsLinked done it.meanings.settings.now.lists (recipes_in kept.now) (around absent.now modules.now recipes.entry) in
+        let adds = AddsLinked done it.meanings.settings.now.lists (recipes_in kept.now) (around_recipes absent.now modules.now recipes.entry) in
         IfOk result (λ made. adds module_path.now made.all) }
     ensures named { let it = completing.now in
         let tells = TellsOne (S.answers it.meanings.syntax.now) (E.answers it.among.evaluation.now) it in
-        let around = around absent.now modules.now recipes.entry in
-        IfErr result (Reports (TellsLinks it.meanings.settings.now.lists tells (recipes_in kept.now) around)) }
+        let around_recipes = around_recipes absent.now modules.now recipes.entry in
+        IfErr result (Reports (TellsLinks it.meanings.settings.now.lists tells (recipes_in kept.now) around_recipes)) }
 {
     let it = &Surroundings {
         absent,

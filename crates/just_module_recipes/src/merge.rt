@@ -1,7 +1,7 @@
 //! Which recipes of a module are disabled, and by which modules.
 ghost use Rattle.std.specs.Prelude.{◌≡◌, ◌<◌, ◌∷◌, ◌++◌, [], length, IfOk, OnOk};
 ghost use Rattle.std.specs.List.{All};
-ghost use Rattle.just_module_recipes.specs.loops.Rows.{AreTold, IsOrderOf, SameMembers, gathered, near};
+ghost use Rattle.just_module_recipes.specs.loops.Rows.{AreTold, IsOrderOf, SameMembers, gathered_paths, near};
 
 use crate::targets::Target;
 use just_data::Sequence;
@@ -37,7 +37,7 @@ fn add_target(
     sets: &[BTreeSet<Modulepath>],
 ) -> Result<(), AllocError>
     requires { All (λ j. j < length sets.now) (near (target.now ∷ [])) }
-    ensures { OnOk result (SameMembers all.new.keys (all.old.keys ++ gathered sets.now (target.now ∷ []))) }
+    ensures { OnOk result (SameMembers all.new.keys (all.old.keys ++ gathered_paths sets.now (target.now ∷ []))) }
 {
     match target {
         Target::Near(place) => add(all, &sets[*place]),
@@ -53,7 +53,7 @@ fn gather(
     sets: &[BTreeSet<Modulepath>],
 ) -> Result<BTreeSet<Modulepath>, AllocError>
     requires { All (λ j. j < length sets.now) (near targets.now) }
-    ensures { IfOk result (λ all. SameMembers all.keys (gathered sets.now targets.now)) }
+    ensures { IfOk result (λ all. SameMembers all.keys (gathered_paths sets.now targets.now)) }
 {
     let mut all = BTreeSet::new(alloc);
     for target in targets {

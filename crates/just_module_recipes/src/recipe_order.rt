@@ -4,7 +4,7 @@ ghost use Rattle.std.specs.List.{All, Contains};
 ghost use Rattle.just_errors.specs.Causes.{Keeps, Reports};
 ghost use Rattle.just_graph.specs.Building.{EachRow};
 ghost use Rattle.just_module_contents.specs.Definitions.{recipes_in};
-ghost use Rattle.just_module_contents.specs.Recipes.{name_of, names_of, recipe_at};
+ghost use Rattle.just_module_contents.specs.Recipes.{name_of_recipe, names_of, recipe_at};
 ghost use Rattle.just_module_recipes.specs.loops.Rows.{Circular, HasRecipeRows, HasTargets, IsOrderOf, IsTokenOn, near};
 ghost use Rattle.just_module_recipes.specs.declared.targets.Target.TheVariants.{Near};
 ghost use Rattle.just_names.specs.Index.{AreDifferent};
@@ -58,7 +58,7 @@ fn names_at<'a, 'src>(
     places: &[usize],
 ) -> Result<Sequence<BorrowedText<'src>>, AllocError>
     requires { All (λ place. place < length kept.now.recipes.items) places.now }
-    ensures { IfOk result (λ names. names ≡ map (λ place. name_of (recipe_at (recipes_in kept.now) place)) places.now) }
+    ensures { IfOk result (λ names. names ≡ map (λ place. name_of_recipe (recipe_at (recipes_in kept.now) place)) places.now) }
 {
     let mut names = Sequence::new(alloc);
     for place in places {

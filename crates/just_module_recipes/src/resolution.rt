@@ -8,7 +8,7 @@ ghost use Rattle.just_module_contents.specs.Recipes.{recipe_at};
 ghost use Rattle.just_module_contents.specs.Resolved.{AreNew, unresolved_numbers};
 ghost use Rattle.just_module_recipes.specs.Completed.{BreaksOne, CoversRecipes, KeepOwn, TellsOne, completed_by};
 ghost use Rattle.just_module_recipes.specs.loops.Completed.{OfUndisabled};
-ghost use Rattle.just_module_recipes.specs.loops.Making.{AreAllThere, IsThere, link_of, links_of, made, made_of, number_of, parameters_of, settled_of};
+ghost use Rattle.just_module_recipes.specs.loops.Making.{AreAllThere, IsThere, link_of, links_of, made, made_of, target_number, parameters_of, settled_of};
 ghost use Rattle.just_module_recipes.specs.loops.Rows.{AreTold, IsOrderOf};
 ghost use Rattle.just_recipe.specs.Grouping.{grouped};
 ghost use Rattle.just_recipe.specs.Recipes.{IsNew, numbers};
@@ -34,7 +34,7 @@ fn number_of<'a, 'src>(
     target: &Target,
 ) -> Number
     requires { IsThere (recipes_in kept.now) recipes.now target.now }
-    ensures { result ≡ number_of (recipes_in kept.now) target.now }
+    ensures { result ≡ target_number (recipes_in kept.now) target.now }
 {
     match target {
         Target::Near(place) => kept.recipe_at(*place).number,
@@ -159,7 +159,7 @@ fn resolve_at<'a, 'm, 'src, S: Syntax, E: ConstantEvaluation>(
     requires count { length row.now ≡ length (recipe_at (recipes_in kept.now) place).dependencies }
     requires there { set.now.keys ≡ [] → All (IsThere (recipes_in kept.now) recipes.old) row.now }
     requires is_new { set.now.keys ≡ [] → IsNew recipes.old (recipe_at (recipes_in kept.now) place).number.0 }
-    requires numbers { set.now.keys ≡ [] → All (λ t. Contains (numbers recipes.old) (number_of (recipes_in kept.now) t).0) row.now }
+    requires numbers { set.now.keys ≡ [] → All (λ t. Contains (numbers recipes.old) (target_number (recipes_in kept.now) t).0) row.now }
     ensures kept { let it = completing.now in
         let breaks = BreaksOne (S.answers it.meanings.syntax.now) (E.answers it.among.evaluation.now) it in
         OnOk result (set.now.keys ≡ [] → Keeps (breaks (recipe_at (recipes_in kept.now) place))) }

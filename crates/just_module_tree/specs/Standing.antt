@@ -11,7 +11,7 @@ use Rattle.just_module_contents.specs.Kept.{kept_recipes}
 use Rattle.just_module_contents.specs.Known.{known_of}
 use Rattle.just_module_contents.specs.Notes.{absent_by}
 use Rattle.just_module_contents.specs.RecipeValues.{BreaksRecipe, IsPastLimits}
-use Rattle.just_module_contents.specs.Recipes.{least_of, most_of, name_of, names_of, recipe_at}
+use Rattle.just_module_contents.specs.Recipes.{least_of, most_of, name_of_recipe, names_of, recipe_at}
 use Rattle.just_module_contents.specs.Rules.{BreaksAliasTargets, Dependencies, DependsBy}
 use Rattle.just_module_contents.specs.Standing.{AreStanding, InStanding}
 use Rattle.just_module_tree.specs.Modules.{Empty, Forest, Module, Tree, contents_of, items_of}
@@ -45,16 +45,16 @@ pub data WalkEnd : Type 0 where
   Nowhere : WalkEnd
 
 -- where names lead of which the first leads into a module, by where the others lead from there
-abbrev pub beyond : Text → WalkEnd → WalkEnd
-beyond name (InModule m inside) = InModule m inside
-beyond name (Missing names) = Missing (name ∷ names)
-beyond name Nowhere = Nowhere
+abbrev pub walk_beyond : Text → WalkEnd → WalkEnd
+walk_beyond name (InModule m inside) = InModule m inside
+walk_beyond name (Missing names) = Missing (name ∷ names)
+walk_beyond name Nowhere = Nowhere
 
 -- where names lead: a module that is there goes before one of its name without a file
 abbrev pub follow : List Text → Module → Forest → WalkEnd
 follow [] m inside = InModule m inside
 follow (name ∷ names) m inside = elim (find_inner name inside) as (λ _. WalkEnd) [
-  | Some n ↦ beyond name (follow names n.0 n.1)
+  | Some n ↦ walk_beyond name (follow names n.0 n.1)
   | None ↦ if list_any (λ absent. bytes_eq absent name) (absent_in m) then Missing (name ∷ []) else Nowhere
 ]
 
@@ -89,7 +89,7 @@ pub record TakesIn (lists : Bool) (m : Module) (inside : Forest) (path : Namepat
   pub leads_in : leads m inside path ≡ InModule n below
   pub j : ℕ
   pub there : j < length (kept_in n)
-  pub named : name_of (recipe_at (kept_in n) j) ≡ text_of_name path.last
+  pub named : name_of_recipe (recipe_at (kept_in n) j) ≡ text_of_name path.last
   pub least_is : least_of (recipe_at (kept_in n) j) ≡ least
   pub most_is : most_of lists (recipe_at (kept_in n) j) ≡ most
 

@@ -105,7 +105,7 @@ module _ (m : Known) (variables : AreDifferent (variables_of m)) (functions : Ar
           | inr t ↦ let f = function_at s.0 b t in omega (arith, slice_get_within (nodes_of m) b (body_scoped f.0) f.2, nodes_long m g rows)
         ]
 
-    pub to_reads : (a b : ℕ) → a < length m.assignments → b < length m.assignments → ReadsOn m (name_at (variables_of m) a) (name_at (variables_of m) b) → graph.Reads (HasEdge g) (solid_of m) a b
+    pub to_reads : (a b : ℕ) → a < length m.assignments → b < length m.assignments → ReadsOn m (name_at (variables_of m) a) (name_at (variables_of m) b) → graph.ReadsThrough (HasEdge g) (solid_of m) a b
     to_reads a b ka kb r =
         let v = variable_at a ka in
         let same : r.assigned ≡ v.0 = some_same (sym r.is ∙ v.1) in
@@ -116,7 +116,7 @@ module _ (m : Known) (variables : AreDifferent (variables_of m)) (functions : Ar
           way = to_passes r.reads a b node (found_at (variables_of m) rows.variable variables rows.variables b (omega (arith, length-keys_of m.assignments)));
         }
 
-    pub from_reads : (a b : ℕ) → graph.Reads (HasEdge g) (solid_of m) a b → ReadsOn m (name_at (variables_of m) a) (name_at (variables_of m) b)
+    pub from_reads : (a b : ℕ) → graph.ReadsThrough (HasEdge g) (solid_of m) a b → ReadsOn m (name_at (variables_of m) a) (name_at (variables_of m) b)
     from_reads a b r =
         let v = variable_at a (solid_inside m a r.reader) in
         record { assigned = v.0; is = v.1; reads = from_passes r.way (solid_inside m b r.read) (value_scoped v.0) v.2 }

@@ -21,7 +21,7 @@ use Rattle.just_ast_expressions.specs.declared.expression.Expression.{Expression
 use Rattle.just_ast_references.specs.Numbers.{bare}
 use Rattle.just_parts.specs.Misnaming.{Misnames}
 use Rattle.just_module_variables.specs.Documented.{AreDocumented, HasDoc, IsDocumented, doc_expressions}
-use Rattle.just_module_variables.specs.loops.Documented.{DocFault, known_by, misnamed, no_value, value_by}
+use Rattle.just_module_variables.specs.loops.Documented.{DocFault, known_by, misnamed, no_value, value_by_tables}
 use Rattle.just_module_variables.specs.Variables.{AreVariablesOf}
 use Rattle.just_module_variables.specs.declared.variables.Variables.{Variables}
 use Rattle.just_module_variables.proofs.Asking.{misnames_known, misnames_tables, tables_functions}
@@ -71,15 +71,15 @@ pub record IsSoundLabel (m : Known) (value : Expression → Option (List Text)) 
   pub values : (e : Expression) → label.doc_expression ≡ Some e → (texts : List Text) × (value e ≡ Some texts)
 
 module _ (answers : SyntaxAnswers) (evaluator : Evaluator) (m : Contents) (variables : Variables) (is : AreVariablesOf answers m variables) (values : Values) where
-  value_same : value_by evaluator variables values ≡ value_among evaluator m values
+  value_same : value_by_tables evaluator variables values ≡ value_among evaluator m values
   value_same =
       let functions = tables_functions answers m variables.assignments variables.functions variables.evaluation_order is in
       λ i e. evaluator.value (functions i) values (bare e)
 
-  pub documented_among : (labels made : List Label) → AreDocumented (value_by evaluator variables values) labels made → AreDocumented (value_among evaluator m values) labels made
+  pub documented_among : (labels made : List Label) → AreDocumented (value_by_tables evaluator variables values) labels made → AreDocumented (value_among evaluator m values) labels made
   documented_among labels made all = subst (λ (v : Expression → Option (List Text)). AreDocumented v labels made) value_same all
 
-  pub sound_docs : (labels : List Label) → m.docs ≡ doc_expressions labels → ((label : Label) → Contains labels label → IsSoundLabel (known_by answers variables) (value_by evaluator variables values) label)
+  pub sound_docs : (labels : List Label) → m.docs ≡ doc_expressions labels → ((label : Label) → Contains labels label → IsSoundLabel (known_by answers variables) (value_by_tables evaluator variables values) label)
       → Keeps (BreaksDocs answers evaluator m values)
   sound_docs labels said sound = docs_kept answers evaluator m values (λ e there.
       let found = doc_of_label labels e (subst (λ (es : List Expression). Contains es e) said there) in
@@ -92,7 +92,7 @@ module _ (answers : SyntaxAnswers) (evaluator : Evaluator) (m : Contents) (varia
       })
 
   -- what is at fault with a label
-  fault_of_label : (e : Expression) (c : Cause) (o : Option Expression) → o ≡ Some e → Contains m.docs e → DocFault (known_by answers variables) (value_by evaluator variables values) o c → BreaksDocs answers evaluator m values c
+  fault_of_label : (e : Expression) (c : Cause) (o : Option Expression) → o ≡ Some e → Contains m.docs e → DocFault (known_by answers variables) (value_by_tables evaluator variables values) o c → BreaksDocs answers evaluator m values c
   fault_of_label e c o said there (misnamed {e = d} is_d b) =
       let same : d ≡ e = same_Some d e (sym is_d ∙ said) in
       in_doc (subst (Contains m.docs) (sym same) there) (misnames_known answers m variables.assignments variables.functions variables.evaluation_order is b)
@@ -101,16 +101,16 @@ module _ (answers : SyntaxAnswers) (evaluator : Evaluator) (m : Contents) (varia
       doc_fault (subst (Contains m.docs) (sym same) there) (ap (λ (v : Expression → Option (List Text)). v d) (sym value_same) ∙ none)
 
   fault_said : (labels : List Label) (label : Label) → m.docs ≡ doc_expressions labels → Contains labels label → (o : Option Expression) → label.doc_expression ≡ o → (c : Cause)
-      → DocFault (known_by answers variables) (value_by evaluator variables values) o c → BreaksDocs answers evaluator m values c
+      → DocFault (known_by answers variables) (value_by_tables evaluator variables values) o c → BreaksDocs answers evaluator m values c
   fault_said labels label said there None is_o c (misnamed is_d b) = cc
   fault_said labels label said there None is_o c (no_value is_d none) = cc
   fault_said labels label said there (Some e) is_o c fault =
       fault_of_label e c (Some e) refl (subst (λ (es : List Expression). Contains es e) (sym said) (doc_there labels label e there is_o)) fault
 
   pub label_told : (labels : List Label) (label : Label) → m.docs ≡ doc_expressions labels → Contains labels label → (told : Error)
-      → Reports (DocFault (known_by answers variables) (value_by evaluator variables values) label.doc_expression) told → Reports (BreaksDocs answers evaluator m values) told
+      → Reports (DocFault (known_by answers variables) (value_by_tables evaluator variables values) label.doc_expression) told → Reports (BreaksDocs answers evaluator m values) told
   label_told labels label said there told h =
-      reports_by (DocFault (known_by answers variables) (value_by evaluator variables values) label.doc_expression) (BreaksDocs answers evaluator m values)
+      reports_by (DocFault (known_by answers variables) (value_by_tables evaluator variables values) label.doc_expression) (BreaksDocs answers evaluator m values)
       (fault_said labels label said there label.doc_expression refl) told h
 
 -- the doc of one label, as its code has it

@@ -20,7 +20,7 @@ use Rattle.just_parts.specs.Known.{Known}
 use Rattle.just_parts.specs.Reading.{mentions}
 use Rattle.just_parts.specs.Scopes.{Scoped}
 use Rattle.just_parts.specs.loops.Scopes.{body_scoped, value_scoped}
-use Rattle.just_module_variables.specs.loops.Steps.{AreNodeRows, nodes_of, rows_of, solid_of, target_of, targets_of}
+use Rattle.just_module_variables.specs.loops.Steps.{AreNodeRows, nodes_of, rows_of, solid_of, target_of, node_targets}
 use Rattle.just_name_resolution.proofs.Placed.{at_left, at_right}
 
 -- it mentions a variable that is found at the place
@@ -74,22 +74,22 @@ module _ (variable function : Text → Option ℕ) (count : ℕ) (s : Scoped) wh
       let p = in_called (function name) count b i in
       inr (record { name = name; arguments = arguments; called = c; at = p.0; place = p.1; is = p.2 })
 
-  pub targets_are : (b : ℕ) → Contains (targets_of variable function count s) b → ToVariable variable s b ⊎ ToFunction function count s b
+  pub targets_are : (b : ℕ) → Contains (node_targets variable function count s) b → ToVariable variable s b ⊎ ToFunction function count s b
   targets_are b c =
       let ms = mentions s.expression in
-      let f = from_flat (target_of variable function count s.hidden) b ms (is_in b (targets_of variable function count s) c) in
+      let f = from_flat (target_of variable function count s.hidden) b ms (is_in b (node_targets variable function count s) c) in
       target_cases f.0 b (contained f.0 ms f.1) f.2
 
-  pub has_variable : (b : ℕ) → ToVariable variable s b → Contains (targets_of variable function count s) b
+  pub has_variable : (b : ℕ) → ToVariable variable s b → Contains (node_targets variable function count s) b
   has_variable b t =
       let ms = mentions s.expression in
-      contained b (targets_of variable function count s)
+      contained b (node_targets variable function count s)
       (in_flat (target_of variable function count s.hidden) b (Names t.name) ms (is_in (Names t.name) ms t.named) (named_in (s.hidden t.name) (variable t.name) b t.open_there t.place))
 
-  pub has_function : (j : ℕ) (name : Text) (arguments : ℕ) → Contains (mentions s.expression) (Calls name arguments) → function name ≡ Some j → Contains (targets_of variable function count s) (count + j)
+  pub has_function : (j : ℕ) (name : Text) (arguments : ℕ) → Contains (mentions s.expression) (Calls name arguments) → function name ≡ Some j → Contains (node_targets variable function count s) (count + j)
   has_function j name arguments c e =
       let ms = mentions s.expression in
-      contained (count + j) (targets_of variable function count s)
+      contained (count + j) (node_targets variable function count s)
       (in_flat (target_of variable function count s.hidden) (count + j) (Calls name arguments) ms (is_in (Calls name arguments) ms c) (called_in (function name) count j e))
 
 -- the row at a place
@@ -133,13 +133,13 @@ module _ (m : Known) where
   ]
 
   module _ (g : List (Vec ℕ Global)) (rows : AreNodeRows m (rows_of g)) where
-    pub row_of : (a : ℕ) (s : Scoped) → slice_get (nodes_of m) a ≡ Some s → targets g a ≡ targets_of rows.variable rows.function (length m.assignments) s
+    pub row_of : (a : ℕ) (s : Scoped) → slice_get (nodes_of m) a ≡ Some s → targets g a ≡ node_targets rows.variable rows.function (length m.assignments) s
     row_of a s e =
-        row_at g a (targets_of rows.variable rows.function (length m.assignments) s)
-        (ap (λ xs. slice_get xs a) rows.are ∙ map_get (targets_of rows.variable rows.function (length m.assignments)) (nodes_of m) a s e)
+        row_at g a (node_targets rows.variable rows.function (length m.assignments) s)
+        (ap (λ xs. slice_get xs a) rows.are ∙ map_get (node_targets rows.variable rows.function (length m.assignments)) (nodes_of m) a s e)
 
     pub nodes_long : length g ≡ length (nodes_of m)
-    nodes_long = sym (length-map g (λ (r : Vec ℕ Global). r.items)) ∙ (ap length rows.are ∙ length-map (nodes_of m) (targets_of rows.variable rows.function (length m.assignments)))
+    nodes_long = sym (length-map g (λ (r : Vec ℕ Global). r.items)) ∙ (ap length rows.are ∙ length-map (nodes_of m) (node_targets rows.variable rows.function (length m.assignments)))
 
     pub variables_within : length m.assignments ≤ length g
     variables_within = omega (arith, nodes_long, length-append (map value_scoped (values_of m.assignments)) (map body_scoped (values_of m.functions)), variables_long)

@@ -15,7 +15,7 @@ use Rattle.just_module_variables.specs.Numbered.{name_of_assignment}
 use Rattle.just_module_variables.specs.Resolved.{AreInOrder}
 use Rattle.just_parts.specs.Known.{Known}
 use Rattle.just_parts.specs.Reading.{IsEvaluationOrder}
-use Rattle.just_module_variables.specs.loops.Steps.{names_of}
+use Rattle.just_module_variables.specs.loops.Steps.{variable_names_at}
 use Rattle.just_name_resolution.proofs.Placed.{different, entry_at}
 
 -- the texts of the names at places
@@ -57,7 +57,7 @@ entry_named (e ∷ es) keyed (suc p) name at = entry_named es (All-tail (λ (x :
 
 -- so the names at the places of an evaluation order are in order
 pub order_named : (m : Known) (names order : List Name) (places : List ℕ) → IsSorted m.assignments → IsKeyed name_of_assignment m.assignments → names ≡ map name_of (values_of m.assignments)
-    → map Some order ≡ map (slice_get names) places → IsEvaluationOrder m (names_of m places) → AreInOrder m order
+    → map Some order ≡ map (slice_get names) places → IsEvaluationOrder m (variable_names_at m places) → AreInOrder m order
 order_named m names order places sorted keyed are at in_order = record {
   in_order =
       let keys : texts_of_names names ≡ keys_of m.assignments = ap texts_of_names are ∙ keys_named m.assignments keyed in

@@ -11,7 +11,7 @@ use Rattle.just_ast_definitions.specs.declared.function_definition.FunctionParam
 use Rattle.just_parts.specs.Known.{hides}
 use Rattle.just_parts.specs.Scopes.{Scoped, scoped}
 use Rattle.just_parts.specs.loops.Scopes.{body_scoped}
-use Rattle.just_module_variables.specs.loops.Steps.{rows_of, targets_of}
+use Rattle.just_module_variables.specs.loops.Steps.{rows_of, node_targets}
 
 -- the row of one more body
 pub body_row_more : (t : Scoped → List ℕ) (first : List (List ℕ)) (rows more : List (Vec ℕ Global)) (row : Vec ℕ Global) (fs : List (Bor FunctionDefinition)) (f : Bor FunctionDefinition) (ps : List FunctionParameter) (hidden : Text → Bool)
@@ -23,6 +23,6 @@ body_row_more t first rows more row fs f ps hidden so is one same whole =
     grind (arith, common_steps)
 
 -- the rows of the values, then those of the bodies
-pub rows_are : (variable function : Text → Option ℕ) (count n : ℕ) (values bodies : List Scoped) (first all : List (List ℕ)) → count ≡ n → first ≡ map (targets_of variable function count) values → all ≡ first ++ map (targets_of variable function count) bodies → all ≡ map (targets_of variable function n) (values ++ bodies)
+pub rows_are : (variable function : Text → Option ℕ) (count n : ℕ) (values bodies : List Scoped) (first all : List (List ℕ)) → count ≡ n → first ≡ map (node_targets variable function count) values → all ≡ first ++ map (node_targets variable function count) bodies → all ≡ map (node_targets variable function n) (values ++ bodies)
 rows_are variable function count n values bodies first all is before e =
-    e ∙ (ap (λ xs. xs ++ map (targets_of variable function count) bodies) before ∙ (sym (map-append (targets_of variable function count) values bodies) ∙ ap (λ k. map (targets_of variable function k) (values ++ bodies)) is))
+    e ∙ (ap (λ xs. xs ++ map (node_targets variable function count) bodies) before ∙ (sym (map-append (node_targets variable function count) values bodies) ∙ ap (λ k. map (node_targets variable function k) (values ++ bodies)) is))

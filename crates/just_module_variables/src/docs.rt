@@ -3,7 +3,7 @@
 ghost use Rattle.std.specs.Prelude.{◌≡◌, IfOk, IfErr};
 ghost use Rattle.just_module_variables.specs.Constants.{CoversAll};
 ghost use Rattle.just_module_variables.specs.Documented.{AreDocumentedIn, IsDocumented, doc_expressions};
-ghost use Rattle.just_module_variables.specs.loops.Documented.{CoversDoc, DocFault, KeepsDoc, known_by, value_by};
+ghost use Rattle.just_module_variables.specs.loops.Documented.{CoversDoc, DocFault, KeepsDoc, known_by, value_by_tables};
 ghost use Rattle.just_module_variables.specs.Variables.{AreVariablesOf};
 ghost use Rattle.just_errors.specs.Causes.{Keeps, Reports};
 ghost use Rattle.just_module_contents.specs.Constants.{BreaksDocs};
@@ -27,8 +27,8 @@ fn documented<'k, 'src, S: Syntax, E: ConstantEvaluation>(
 ) -> Result<Label<'src>, Error<'src>>
     requires { CoversDoc variables.now (scope_values constants.now) label.now }
     ensures kept { IfOk result (λ _. KeepsDoc (S.answers given.now.syntax.now) variables.now label.now) }
-    ensures label { IfOk result (IsDocumented (value_by (E.answers given.now.evaluation.now) variables.now (scope_values constants.now)) label.now) }
-    ensures named { let value = value_by (E.answers given.now.evaluation.now) variables.now (scope_values constants.now) in
+    ensures label { IfOk result (IsDocumented (value_by_tables (E.answers given.now.evaluation.now) variables.now (scope_values constants.now)) label.now) }
+    ensures named { let value = value_by_tables (E.answers given.now.evaluation.now) variables.now (scope_values constants.now) in
         IfErr result (Reports (DocFault (known_by (S.answers given.now.syntax.now) variables.now) value label.now.doc_expression)) }
 {
     let mut made = copied(label)?;

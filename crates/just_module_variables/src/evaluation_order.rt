@@ -8,7 +8,7 @@ ghost use Rattle.just_table.specs.Entries.{IsSorted};
 ghost use Rattle.just_name_resolution.specs.Lent.{known_in};
 ghost use Rattle.just_parts.specs.Misnaming.{Expressions, HaveFunctionNames, HaveNames};
 ghost use Rattle.just_parts.specs.Reading.{IsEvaluationOrder};
-ghost use Rattle.just_module_variables.specs.loops.Steps.{AreNodeRows, IsCircleAt, IsOrderAt, names_of, rows_of, solid_of};
+ghost use Rattle.just_module_variables.specs.loops.Steps.{AreNodeRows, IsCircleAt, IsOrderAt, variable_names_at, rows_of, solid_of};
 
 use crate::nodes::{Nodes, keys_in, nodes_of};
 use just_data::{BorrowedText, Sequence};
@@ -95,7 +95,7 @@ pub fn order_assignments<'a, 'src, S: Syntax>(
 ) -> Result<Vec<usize>, Error<'src>>
     ensures kept { IfOk result (λ _. Keeps (Expressions (known_in (S.answers known.now.syntax.now) known.now))) }
     ensures inside { IfOk result (λ order. All (λ place. place < length known.now.assignments.now) order.items) }
-    ensures ordered { IfOk result (λ order. let m = known_in (S.answers known.now.syntax.now) known.now in IsEvaluationOrder m (names_of m order.items)) }
+    ensures ordered { IfOk result (λ order. let m = known_in (S.answers known.now.syntax.now) known.now in IsEvaluationOrder m (variable_names_at m order.items)) }
     ensures named { IfErr result (Reports (Expressions (known_in (S.answers known.now.syntax.now) known.now))) }
 {
     check_names(alloc, known)?;

@@ -4,7 +4,7 @@ ghost use Rattle.std.specs.Prelude.{◌≡◌, ℕ, List, IfOk};
 ghost use Rattle.std.specs.HashMap.{get};
 ghost use Rattle.std.specs.Str.{bytes_eq};
 ghost use Rattle.just_name_resolution.specs.Numbers.{number_in};
-ghost use Rattle.just_module_variables.specs.Numbered.{function_by, number_by, parameter_number, with_value_numbers};
+ghost use Rattle.just_module_variables.specs.Numbered.{function_numbered, number_by, function_parameter_number, with_value_numbers};
 ghost use Rattle.just_module_variables.specs.loops.Numbered.{AreBindings};
 
 use just_data::BorrowedText;
@@ -34,7 +34,7 @@ pub fn parameter_numbers<'src>(
     alloc: Global,
     parameters: &[FunctionParameter<'src>],
 ) -> Result<HashMap<BorrowedText<'src>, Number>, AllocError>
-    ensures { IfOk result (λ made. (name : List ℕ) → get bytes_eq made name ≡ parameter_number parameters.now name) }
+    ensures { IfOk result (λ made. (name : List ℕ) → get bytes_eq made name ≡ function_parameter_number parameters.now name) }
 {
     let mut numbers = HashMap::new(alloc);
     for parameter in parameters {
@@ -70,7 +70,7 @@ pub(crate) fn numbered_function<'src, S: Syntax>(
     bindings: &HashMap<BorrowedText<'src>, Number>,
     syntax: &S,
 ) -> Result<FunctionDefinition<'src>, AllocError>
-    ensures { IfOk result (λ made. made ≡ function_by (number_by (get bytes_eq bindings.now) (S.answers syntax.now).constant) function.now) }
+    ensures { IfOk result (λ made. made ≡ function_numbered (number_by (get bytes_eq bindings.now) (S.answers syntax.now).constant) function.now) }
 {
     let parameters = parameter_numbers(alloc, function.parameters.as_slice())?;
     let numbers = Numbers {

@@ -17,13 +17,13 @@ use Rattle.just_parts.specs.Needs.{GainsThose, HaveNumbersApart, IsSame, same_nu
 use Rattle.just_name_resolution.specs.Called.{GainsCalled, IsCalledFrom, IsWhole, directly, through_body, through_value}
 use Rattle.just_parts.specs.Scopes.{Scoped, scoped}
 use Rattle.just_parts.specs.loops.Scopes.{body_scoped, value_scoped}
-use Rattle.just_name_resolution.specs.loops.Search.{Found, IsCalledIn, IsDone, Searches, found_in, scoped_of}
+use Rattle.just_name_resolution.specs.loops.Search.{Found, IsCalledIn, IsDone, IsSearchFrom, found_in, scoped_of}
 use Rattle.just_name_resolution.specs.declared.needs.Search.{Search}
 use Rattle.just_name_resolution.proofs.Collecting.{gained}
 use Rattle.just_name_resolution.proofs.Searching.{done_at_last, reads_found}
 
 module _ (m : Known) (overridden : Number → Bool) (firsts : List Scoped) (old : Number → Bool) (visited : Text → Bool) (f : Found)
-    (search : Searches m overridden firsts old visited f) (over : f.waiting ≡ []) (apart : HaveNumbersApart m) (whole : IsWhole m overridden old visited) where
+    (search : IsSearchFrom m overridden firsts old visited f) (over : f.waiting ≡ []) (apart : HaveNumbersApart m) (whole : IsWhole m overridden old visited) where
   done_in_the_end : (s : Scoped) → Contains f.waiting s ⊎ IsDone m f s → IsDone m f s
   done_in_the_end = done_at_last m overridden firsts old visited f search over
 
@@ -71,7 +71,7 @@ module _ (m : Known) (overridden : Number → Bool) (firsts : List Scoped) (old 
 
 -- from one expression
 module _ (m : Known) (overridden : Number → Bool) (hidden : Text → Bool) (e : Expression) (old : Number → Bool) (visited : Text → Bool) (s : Search)
-    (search : Searches m overridden (scoped hidden e ∷ []) old visited (found_in old visited s)) (over : s.stack.items ≡ []) (between new : Text → Bool)
+    (search : IsSearchFrom m overridden (scoped hidden e ∷ []) old visited (found_in old visited s)) (over : s.stack.items ≡ []) (between new : Text → Bool)
     (same : IsSame visited between) (gains : GainsThose (contains bytes_eq s.functions) between new) where
   waits_no_more : map scoped_of s.stack.items ≡ []
   waits_no_more = ap (map scoped_of) over

@@ -16,7 +16,7 @@ use Rattle.just_names.specs.Name.{text_of_name}
 use Rattle.just_names.specs.declared.name.Name.{Name}
 use Rattle.just_names.specs.declared.number.Number.{Number}
 use Rattle.just_parts.specs.Needs.{same_number}
-use Rattle.just_name_resolution.specs.loops.Search.{Found, Looks, LooksAtCall, LooksAtName, Searches, found_in, functions_left, hidden_by, scoped_of, unfound, variables_left}
+use Rattle.just_name_resolution.specs.loops.Search.{Found, Looks, LooksAtCall, LooksAtName, IsSearchFrom, found_in, functions_left, hidden_by, scoped_of, unfound, variables_left}
 use Rattle.just_name_resolution.specs.declared.needs.Search.{Search}
 use Rattle.just_name_resolution.specs.declared.needs.Waiting.{Waiting}
 use Rattle.just_name_resolution.proofs.Looking.{looks_call, looks_function, looks_name, looks_variable}
@@ -116,7 +116,7 @@ module _ (m : Known) (overridden : Number → Bool) (hidden : Text → Bool) (re
 -- a search, by what its code holds
 module _ (m : Known) (overridden : Number → Bool) (firsts : List Waiting) (references : Number → Bool) (visited : Text → Bool) where
   pub searches_first : (s : Search) → s.numbers.keys ≡ [] → s.functions.keys ≡ [] → s.stack.items ≡ firsts
-      → Searches m overridden (map scoped_of firsts) references visited (found_in references visited s)
+      → IsSearchFrom m overridden (map scoped_of firsts) references visited (found_in references visited s)
   searches_first s numbers functions stack =
       search_begins m overridden (map scoped_of firsts) references visited (found_in references visited s)
       (λ n. or_nothing (references n) (contains same_number s.numbers n) (ap (list_any (same_number n)) numbers))
@@ -124,7 +124,7 @@ module _ (m : Known) (overridden : Number → Bool) (firsts : List Waiting) (ref
       (ap (map scoped_of) stack)
 
   module _ (old popped new : Search) (next : Waiting) (numbers : popped.numbers ≡ old.numbers) (functions : popped.functions ≡ old.functions) (pop : old.stack.items ≡ popped.stack.items ++ next ∷ [])
-      (search : Searches m overridden (map scoped_of firsts) references visited (found_in references visited old))
+      (search : IsSearchFrom m overridden (map scoped_of firsts) references visited (found_in references visited old))
       (looks : Looks m overridden (hidden_by next.parameters) (mentions next.expression.now) (found_in references visited popped) (found_in references visited new)) where
     same_numbers : (n : Number) → (references n || contains same_number popped.numbers n) ≡ (references n || contains same_number old.numbers n)
     same_numbers n = ap (λ s. references n || contains same_number s n) numbers
@@ -132,7 +132,7 @@ module _ (m : Known) (overridden : Number → Bool) (firsts : List Waiting) (ref
     same_functions : (name : Text) → (visited name || contains bytes_eq popped.functions name) ≡ (visited name || contains bytes_eq old.functions name)
     same_functions name = ap (λ s. visited name || contains bytes_eq s name) functions
 
-    pub searches_next : Searches m overridden (map scoped_of firsts) references visited (found_in references visited new)
+    pub searches_next : IsSearchFrom m overridden (map scoped_of firsts) references visited (found_in references visited new)
     searches_next =
         search_goes_on m overridden (map scoped_of firsts) references visited (found_in references visited old) (found_in references visited popped) (found_in references visited new) (scoped_of next)
         search (pushed popped.stack.items old.stack.items next (scoped_of next) pop refl) same_numbers same_functions looks
@@ -147,7 +147,7 @@ module _ (m : Known) (overridden : Number → Bool) (firsts : List Waiting) (ref
 
   -- where nothing is popped it stays as it is
   pub searches_still : (old new : Search) → new.numbers ≡ old.numbers → new.functions ≡ old.functions → old.stack.items ≡ new.stack.items ++ []
-      → Searches m overridden (map scoped_of firsts) references visited (found_in references visited old) → Searches m overridden (map scoped_of firsts) references visited (found_in references visited new)
+      → IsSearchFrom m overridden (map scoped_of firsts) references visited (found_in references visited old) → IsSearchFrom m overridden (map scoped_of firsts) references visited (found_in references visited new)
   searches_still old new numbers functions stack search =
       let items : old.stack.items ≡ new.stack.items = stack ∙ append-nil new.stack.items in
       let same : found_in references visited old ≡ found_in references visited new =
@@ -156,4 +156,4 @@ module _ (m : Known) (overridden : Number → Bool) (firsts : List Waiting) (ref
         function = λ name. visited name || contains bytes_eq (sym functions i) name;
         waiting = map scoped_of (items i);
       }) in
-      subst (Searches m overridden (map scoped_of firsts) references visited) same search
+      subst (IsSearchFrom m overridden (map scoped_of firsts) references visited) same search

@@ -10,7 +10,7 @@ use Rattle.just_names.specs.Texts.{Text}
 use Rattle.just_names.specs.declared.number.Number.{Number}
 use Rattle.just_parts.specs.Needs.{Gains, GainsAll, HaveNumbersApart, IsClosed, IsNumberIn, Needs, onward, overridden_by, same_number, starts}
 use Rattle.just_name_resolution.specs.Called.{AreBodiesRead, IsCalledFrom, directly, through_body, through_value}
-use Rattle.just_name_resolution.specs.loops.Search.{Found, IsCalledIn, IsCovered, IsDone, IsReadFrom, LeadsOn, Looks, Says, Searches, to_body, to_value, unfound}
+use Rattle.just_name_resolution.specs.loops.Search.{Found, IsCalledIn, WaitsOrIsSearched, IsDone, IsReadFrom, LeadsOn, Looks, Says, IsSearchFrom, to_body, to_value, unfound}
 use Rattle.just_name_resolution.proofs.Looking.{added, kept, not_in_none}
 use Rattle.just_name_resolution.proofs.Sets.{number_itself, one_number}
 use Rattle.just_ast_definitions.specs.declared.assignment.Assignment.{Assignment}
@@ -30,7 +30,7 @@ module _ (m : Known) (overridden : Number → Bool) (firsts : List Scoped) (old 
   IsNeeded = Needs m (overridden_by overridden m) (IsReadFrom m firsts)
 
   -- as it begins
-  pub search_begins : (f : Found) → ((n : Number) → f.number n ≡ old n) → ((name : Text) → f.function name ≡ visited name) → f.waiting ≡ firsts → Searches m overridden firsts old visited f
+  pub search_begins : (f : Found) → ((n : Number) → f.number n ≡ old n) → ((name : Text) → f.function name ≡ visited name) → f.waiting ≡ firsts → IsSearchFrom m overridden firsts old visited f
   search_begins f numbers functions waits = record {
     keeps = λ n h. numbers n ∙ h;
     only = λ n h. inl (sym (numbers n) ∙ h);
@@ -43,7 +43,7 @@ module _ (m : Known) (overridden : Number → Bool) (firsts : List Scoped) (old 
     values = λ apart name a is on h. inl (sym (numbers a.number) ∙ h);
   }
 
-  module _ (f popped g : Found) (s : Scoped) (search : Searches m overridden firsts old visited f) (pops : f.waiting ≡ popped.waiting ++ s ∷ [])
+  module _ (f popped g : Found) (s : Scoped) (search : IsSearchFrom m overridden firsts old visited f) (pops : f.waiting ≡ popped.waiting ++ s ∷ [])
       (numbers : (n : Number) → popped.number n ≡ f.number n) (functions : (name : Text) → popped.function name ≡ f.function name) (looks : Looks m overridden s.hidden (mentions s.expression) popped g) where
     waits_still : (t : Scoped) → Contains popped.waiting t → Contains f.waiting t
     waits_still t c = subst (λ ss. Contains ss t) (sym pops) (Contains-append_left popped.waiting (s ∷ []) t c)
@@ -54,7 +54,7 @@ module _ (m : Known) (overridden : Number → Bool) (firsts : List Scoped) (old 
     done_now : IsDone m g s
     done_now = record { numbers = looks.numbers; functions = looks.functions }
 
-    covered_on : (t : Scoped) → IsCovered m f t → IsCovered m g t
+    covered_on : (t : Scoped) → WaitsOrIsSearched m f t → WaitsOrIsSearched m g t
     covered_on t (inl c) = elim (Contains-append_cases popped.waiting (s ∷ []) t (subst (λ ss. Contains ss t) pops c)) [
       | inl still ↦ inl (looks.keeps_waiting t still)
       | inr it ↦ inr (subst (IsDone m g) (the_one s t it) done_now)
@@ -77,7 +77,7 @@ module _ (m : Known) (overridden : Number → Bool) (firsts : List Scoped) (old 
     called_on t (to_body call) name r = search.called s waited name (through_body call.arguments call.among call.is r)
 
     -- after an expression is looked into
-    pub search_goes_on : Searches m overridden firsts old visited g
+    pub search_goes_on : IsSearchFrom m overridden firsts old visited g
     search_goes_on = record {
       keeps = λ n h. looks.keeps_numbers n (numbers n ∙ search.keeps n h);
       only = λ n h. elim (looks.new_number n h) [
@@ -121,14 +121,14 @@ module _ (m : Known) (overridden : Number → Bool) (firsts : List Scoped) (old 
         omega arith
 
   -- at its end
-  module _ (f : Found) (search : Searches m overridden firsts old visited f) (over : f.waiting ≡ []) where
+  module _ (f : Found) (search : IsSearchFrom m overridden firsts old visited f) (over : f.waiting ≡ []) where
     pub search_gains : (new : Number → Bool) → ((n : Number) → new n ≡ f.number n) → Gains m overridden (IsReadFrom m firsts) old new
     search_gains new are = record {
       keeps = λ n h. are n ∙ search.keeps n h;
       only = λ n h. search.only n (sym (are n) ∙ h);
     }
 
-    pub done_at_last : (s : Scoped) → IsCovered m f s → IsDone m f s
+    pub done_at_last : (s : Scoped) → WaitsOrIsSearched m f s → IsDone m f s
     done_at_last s (inl c) = absurd (not_in_none s (subst (λ ss. Contains ss s) over c))
     done_at_last s (inr d) = d
 

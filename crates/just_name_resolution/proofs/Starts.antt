@@ -11,7 +11,7 @@ use Rattle.just_names.specs.declared.number.Number.{Number}
 use Rattle.just_parts.specs.Known.{Known, none_hidden}
 use Rattle.just_parts.specs.Needs.{AreNeededBy, Gains, GainsAll, IsNumberIn, Needs, onward, overridden_by, same_number, starts}
 use Rattle.just_parts.specs.Reading.{IsReadIn, Reads}
-use Rattle.just_name_resolution.specs.loops.Search.{IsReadFrom, Searches, found_in, scoped_of}
+use Rattle.just_name_resolution.specs.loops.Search.{IsReadFrom, IsSearchFrom, found_in, scoped_of}
 use Rattle.just_name_resolution.specs.declared.needs.Search.{Search}
 use Rattle.just_name_resolution.proofs.Looking.{not_in_none}
 use Rattle.just_name_resolution.proofs.Searching.{search_gains, search_gains_all}
@@ -60,8 +60,8 @@ module _ (m : Known) where
 
 -- a search from equal expressions
 pub searches_from : (m : Known) (overridden old : Number → Bool) (visited : Text → Bool) (s : Search) (first same : List Scoped) → first ≡ same
-    → Searches m overridden first old visited (found_in old visited s) → Searches m overridden same old visited (found_in old visited s)
-searches_from m overridden old visited s first same e search = subst (λ ss. Searches m overridden ss old visited (found_in old visited s)) e search
+    → IsSearchFrom m overridden first old visited (found_in old visited s) → IsSearchFrom m overridden same old visited (found_in old visited s)
+searches_from m overridden old visited s first same e search = subst (λ ss. IsSearchFrom m overridden ss old visited (found_in old visited s)) e search
 
 -- a set that gains what is needed from one expression, and one that begins with nothing and gains what is needed from several
 module _ (m : Known) (overridden : Number → Bool) (old new : Number → Bool) where
@@ -93,7 +93,7 @@ scoped_all (e ∷ es) = ap (λ (ss : List Scoped). scoped none_hidden e.now ∷ 
 
 -- what a search from several expressions finds, that begins with nothing
 pub found_by : (m : Known) (overridden old : Number → Bool) (visited : Text → Bool) (s : Search) (first : List Scoped) (es : List Expression) → first ≡ map (scoped none_hidden) es
-    → Searches m overridden first old visited (found_in old visited s) → s.stack.items ≡ [] → ((n : Number) → old n ≡ false) → ((name : Text) → visited name ≡ false)
+    → IsSearchFrom m overridden first old visited (found_in old visited s) → s.stack.items ≡ [] → ((n : Number) → old n ≡ false) → ((name : Text) → visited name ≡ false)
     → AreNeededBy m overridden es (contains same_number s.numbers)
 found_by m overridden old visited s first es from search over none unvisited =
     let all = map (scoped none_hidden) es in

@@ -6,7 +6,7 @@ ghost use Rattle.std.specs.Str.{bytes_eq};
 ghost use Rattle.just_names.specs.Name.{text_of_name};
 ghost use Rattle.just_parts.specs.Needs.{AreNeeded, AreNeededBy, Gains, GainsAll, GainsThose, HaveNumbersApart, IsSame, has_number, same_number};
 ghost use Rattle.just_name_resolution.specs.Called.{AreBodiesRead, GainsCalled, IsWhole};
-ghost use Rattle.just_name_resolution.specs.loops.Search.{Looks, LooksAtCall, LooksAtName, Searches, found_in, hidden_by, scoped_of};
+ghost use Rattle.just_name_resolution.specs.loops.Search.{Looks, LooksAtCall, LooksAtName, IsSearchFrom, found_in, hidden_by, scoped_of};
 ghost use Rattle.just_ast_references.specs.Mentions.{mention_of};
 ghost use Rattle.just_table.specs.Entries.{find};
 ghost use Rattle.just_parts.specs.Known.{hides};
@@ -187,7 +187,7 @@ fn search_from<'w, 'a, 'src>(
     ensures found { let m = tables_in tables.now in
         let old = contains same_number references.now in
         let visited = contains bytes_eq visited.now in
-        IfOk result (λ search. Searches m (has_number overrides.now) (map scoped_of stack.entry.items) old visited (found_in old visited search)) }
+        IfOk result (λ search. IsSearchFrom m (has_number overrides.now) (map scoped_of stack.entry.items) old visited (found_in old visited search)) }
     ensures over { IfOk result (λ search. search.stack.items ≡ []) }
 {
     let mut search = Search {

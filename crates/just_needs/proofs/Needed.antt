@@ -9,7 +9,8 @@ use Rattle.just_tasks.specs.Leading.{LeadTo}
 use Rattle.just_tasks.specs.declared.task.Task.{Task}
 use Rattle.just_graph.proofs.Members.{In, contained, is_in}
 use Rattle.just_justfile.specs.Closed.{StandsIn}
-use Rattle.just_justfile.specs.Running.{IsReadBy, arguments_of, known_by_tables}
+use Rattle.just_justfile.specs.Running.{IsReadBy, known_by_tables}
+use Rattle.just_recipe.specs.Recipes.{arguments_of}
 use Rattle.just_justfile.specs.declared.justfile.Justfile.{Justfile, out-Justfile}
 use Rattle.just_names.specs.Texts.{Text}
 use Rattle.just_names.specs.declared.number.Number.{Number}

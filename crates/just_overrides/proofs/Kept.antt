@@ -44,11 +44,11 @@ once_inner name (Tree m inside after) n within all e =
 -- and in one to which names lead
 abbrev next_place : List Text → Text → Bool → Option (Module × Forest) → WalkEnd
 next_place names x absent found = elim found as (λ _. WalkEnd) [
-  | Some n ↦ trees.beyond x (follow names n.0 n.1)
+  | Some n ↦ trees.walk_beyond x (follow names n.0 n.1)
   | None ↦ if absent then trees.Missing (x ∷ []) else trees.Nowhere
 ]
 
-beyond_in : (x : Text) (n : Module) (within : Forest) (p : WalkEnd) → trees.beyond x p ≡ trees.InModule n within → p ≡ trees.InModule n within
+beyond_in : (x : Text) (n : Module) (within : Forest) (p : WalkEnd) → trees.walk_beyond x p ≡ trees.InModule n within → p ≡ trees.InModule n within
 beyond_in x n within (trees.InModule m inside) e = e
 beyond_in x n within (trees.Missing names) e = cc
 beyond_in x n within trees.Nowhere e = cc

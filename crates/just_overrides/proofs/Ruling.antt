@@ -24,7 +24,7 @@ use Rattle.just_compiled.proofs.Agreeing.{SayAll, Shows}
 use Rattle.just_compiled.proofs.Saying.{Says, forest_says}
 use Rattle.just_compiled.specs.Justfiles.{AreCompiled, Built, IsCompiled, Made, none, one, recipes_of_all}
 use Rattle.just_overrides.specs.Applied.{TellsUnknown}
-use Rattle.just_overrides.specs.Reached.{number_in, reached, told_of, unknown, variable_of}
+use Rattle.just_overrides.specs.Reached.{number_in_module, reached, told_of, unknown, variable_of}
 use Rattle.just_overrides.proofs.Kept.{all_once}
 use Rattle.just_overrides.proofs.Leading.{At, reached_back, reached_on}
 use Rattle.just_overrides.proofs.Variables.{kept_variable, variable_kept}
@@ -90,20 +90,20 @@ module _ (given : Given) (asts : AstKey → Option Ast) (loaded : List Text) (bu
     number_some None number e = cc
     number_some (Some a) number e = (a, refl)
 
-    means_at : (key : OverrideKey) (number : Number) (k : Justfile) → reached root key.0.components ≡ Some k → number_in key.1 k ≡ Some number → Means key
+    means_at : (key : OverrideKey) (number : Number) (k : Justfile) → reached root key.0.components ≡ Some k → number_in_module key.1 k ≡ Some number → Means key
     means_at key number k f g =
         let r = reached_back given asts loaded built recipes root closed at_root key.0.components m inside root k at f in
         let a = number_some (find key.1 (out-Justfile k).assignments) number g in
         record { n = r.0; within = r.1; reaches = r.2; named = variable_kept given asts loaded built r.0 r.1 k r.3.shows key.1 a.0 a.1 }
 
-    none_meant : (key : OverrideKey) (number : Number) → option_and_then (number_in key.1) None ≡ Some number → ⊥
+    none_meant : (key : OverrideKey) (number : Number) → option_and_then (number_in_module key.1) None ≡ Some number → ⊥
     none_meant key number e = cc
 
     -- a key that means a variable of the compiled modules means one of the tree
     pub means_back : (key : OverrideKey) (number : Number) → variable_of root key ≡ Some number → Means key
     means_back key number e = go (reached root key.0.components) refl e
       where
-        go : (o : Option Justfile) → reached root key.0.components ≡ o → option_and_then (number_in key.1) o ≡ Some number → Means key
+        go : (o : Option Justfile) → reached root key.0.components ≡ o → option_and_then (number_in_module key.1) o ≡ Some number → Means key
         go None f g = absurd (none_meant key number g)
         go (Some k) f g = means_at key number k f g
 
@@ -115,7 +115,7 @@ module _ (given : Given) (asts : AstKey → Option Ast) (loaded : List Text) (bu
     pub means_on : (key : OverrideKey) → variable_of root key ≡ None → Means key → ⊥
     means_on key e means =
         let r = reached_on given asts loaded built recipes root closed at_root means.reaches root at in
-        kept_variable given asts loaded built means.n means.within r.0 r.2.shows key.1 means.named (lost_number (find key.1 (out-Justfile r.0).assignments) (ap (option_and_then (number_in key.1)) (sym r.1) ∙ e))
+        kept_variable given asts loaded built means.n means.within r.0 r.2.shows key.1 means.named (lost_number (find key.1 (out-Justfile r.0).assignments) (ap (option_and_then (number_in_module key.1)) (sym r.1) ∙ e))
 
     -- so the same are unknown
     are_unknown : (entries : List (OverrideKey × Text)) → AreUnknown Means (keys_of entries) (unknown root entries)

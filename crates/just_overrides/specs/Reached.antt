@@ -28,12 +28,12 @@ abbrev pub reached : Justfile → List Text → Option Justfile
 reached root = reached_from root root
 
 -- the number of the variable of a name in a module
-abbrev pub number_in : Text → Justfile → Option Number
-number_in name j = option_map (λ (a : Assignment). a.number) (find name (out-Justfile j).assignments)
+abbrev pub number_in_module : Text → Justfile → Option Number
+number_in_module name j = option_map (λ (a : Assignment). a.number) (find name (out-Justfile j).assignments)
 
 -- the number of the variable that a key means
 abbrev pub variable_of : Justfile → OverrideKey → Option Number
-variable_of root key = option_and_then (number_in key.1) (reached root key.0.components)
+variable_of root key = option_and_then (number_in_module key.1) (reached root key.0.components)
 
 -- the number that is meant, with the value that is given
 abbrev pub given_for : Text → Option Number → List (Number × Text)

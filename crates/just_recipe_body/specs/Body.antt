@@ -37,10 +37,10 @@ pub record BodyContents : Type 0 where
   pub positional : List Text
 
 -- for the private functions: the same of what is lent
-abbrev pub contents_of : {S : Type 0} → SyntaxAnswers → Body S → BodyContents
-contents_of syntax body = record {
+abbrev pub body_contents_of : {S : Type 0} → SyntaxAnswers → Body S → BodyContents
+body_contents_of syntax body = record {
   syntax = syntax;
-  context = evaluation.contents_of body.context.now;
+  context = evaluation.context_contents_of body.context.now;
   recipe = body.recipe.now;
   scope = body.scope.now;
   is_dependency = body.is_dependency;
@@ -57,8 +57,8 @@ abbrev pub body_name : BodyContents → Text
 body_name b = text_of_name b.recipe.name
 
 -- a text, or what its fault is told by; an answer of another kind does not come up
-abbrev pub unevaluated : Text → RunError
-unevaluated message = run.Evaluate (record { message = message })
+abbrev pub evaluation_fault : Text → RunError
+evaluation_fault message = run.Evaluate (record { message = message })
 
 abbrev pub untimed : Text → RunError
 untimed message = run.DatetimeFormat (record { message = message })
@@ -70,10 +70,10 @@ text_or fault _ = Fail Memory
 
 -- the text of an expression, and that of a line
 abbrev pub string_steps : BodyContents → Expression → Interaction Text
-string_steps b expression = Ask (ToEvaluator (StringOf (surroundings_of b) expression)) (text_or unevaluated)
+string_steps b expression = Ask (ToEvaluator (StringOf (surroundings_of b) expression)) (text_or evaluation_fault)
 
 abbrev pub line_steps : BodyContents → Line → Bool → Interaction Text
-line_steps b line continued = Ask (ToEvaluator (LineOf (surroundings_of b) line continued)) (text_or unevaluated)
+line_steps b line continued = Ask (ToEvaluator (LineOf (surroundings_of b) line continued)) (text_or evaluation_fault)
 
 -- the folder of its module: for the root that of the configuration, where there is one
 abbrev pub module_folder : List Text → Option Text → Text → Text
@@ -107,8 +107,8 @@ format_steps b = said_format_steps b (timestamp_of b.recipe.attributes)
 abbrev pub prepared : Option Text → Option Text → Preparation
 prepared directory format = record { working_directory = directory; timestamp_format = format }
 
-abbrev pub prepare_steps : BodyContents → Interaction Preparation
-prepare_steps b = and_then (directory_steps b) (λ directory. and_then (format_steps b) (λ format. Return (prepared directory format)))
+abbrev pub body_prepare_steps : BodyContents → Interaction Preparation
+body_prepare_steps b = and_then (directory_steps b) (λ directory. and_then (format_steps b) (λ format. Return (prepared directory format)))
 
 -- the time, where there is a format
 abbrev pub telling_steps : Text → Interaction Text
@@ -129,7 +129,7 @@ show_steps line = Ask (ToHost (Show line)) (λ answer. Return tt)
 -- what programs have in their environment: what the layer says, and over it what the parameters put there
 abbrev pub changes_or : Answer → Interaction (List EnvironmentChange)
 changes_or (Changed changes) = Return changes
-changes_or (Refused message) = Fail (Failed (unevaluated message))
+changes_or (Refused message) = Fail (Failed (evaluation_fault message))
 changes_or _ = Fail Memory
 
 abbrev pub environment_steps : BodyContents → Interaction (List EnvironmentChange)

@@ -72,7 +72,7 @@ pub fn ask_string<'a, 'run, 'src, S: Syntax, E: Evaluation>(
 ) -> Result<Text, Halt<'src>>
     requires covered { IsCovered (module_of body.now.context.now) body.now.scope.now expression.now }
     ensures keeps { KeepsPromises (E.promised evaluation.old) (E.promised evaluation.new) }
-    ensures took { let steps = spec.string_steps (spec.contents_of (S.answers body.now.syntax.now) body.now) expression.now in
+    ensures took { let steps = spec.string_steps (spec.body_contents_of (S.answers body.now.syntax.now) body.now) expression.now in
         AsksEvaluator (E.promised evaluation.old) steps (E.requests evaluation.old) (E.requests evaluation.new) result }
 {
     match evaluation.string(
@@ -102,7 +102,7 @@ pub fn ask_line<'a, 'run, 'src, S: Syntax, E: Evaluation>(
         IfOk result (λ text. continued ≡ false → BeginsPlain (length (E.sigils line.now settings)) text) }
     ensures ends { IfOk result (λ text. E.continues line.now ≡ true → EndsWithBackslash text) }
     ensures keeps { KeepsPromises (E.promised evaluation.old) (E.promised evaluation.new) }
-    ensures took { let steps = spec.line_steps (spec.contents_of (S.answers body.now.syntax.now) body.now) line.now continued in
+    ensures took { let steps = spec.line_steps (spec.body_contents_of (S.answers body.now.syntax.now) body.now) line.now continued in
         AsksEvaluator (E.promised evaluation.old) steps (E.requests evaluation.old) (E.requests evaluation.new) result }
 {
     match evaluation.line(
@@ -122,7 +122,7 @@ pub fn ask_line<'a, 'run, 'src, S: Syntax, E: Evaluation>(
 
 // The folder of the module: for the root that of the configuration, where there is one.
 fn folder<'a, 'run, 'src, S: Syntax>(body: &Body<'a, 'run, 'src, S>) -> &'a Text
-    ensures { result.now ≡ spec.folder (spec.contents_of (S.answers body.now.syntax.now) body.now) }
+    ensures { result.now ≡ spec.folder (spec.body_contents_of (S.answers body.now.syntax.now) body.now) }
 {
     let context = body.context;
     if context.module_path.components.is_empty() {
@@ -149,7 +149,7 @@ pub fn ask_directory<'a, 'run, 'src, S: Syntax, E: Evaluation>(
 ) -> Result<Option<Text>, Halt<'src>>
     requires covered { All (IsCovered (module_of body.now.context.now) body.now.scope.now) (in_attributes attribute_expressions body.now.recipe.now) }
     ensures keeps { KeepsPromises (E.promised evaluation.old) (E.promised evaluation.new) }
-    ensures took { let steps = spec.directory_steps (spec.contents_of (S.answers body.now.syntax.now) body.now) in
+    ensures took { let steps = spec.directory_steps (spec.body_contents_of (S.answers body.now.syntax.now) body.now) in
         AsksEvaluator (E.promised evaluation.old) steps (E.requests evaluation.old) (E.requests evaluation.new) result }
 {
     if !changes_directory(body.recipe, body.context.settings) {
@@ -169,7 +169,7 @@ fn configured_format<'a, 'run, 'src, S: Syntax>(
     alloc: Global,
     body: &Body<'a, 'run, 'src, S>,
 ) -> Result<Text, AllocError>
-    ensures { IfOk result (λ text. text ≡ spec.configured_format (spec.contents_of (S.answers body.now.syntax.now) body.now)) }
+    ensures { IfOk result (λ text. text ≡ spec.configured_format (spec.body_contents_of (S.answers body.now.syntax.now) body.now)) }
 {
     match &body.context.config.timestamp_format {
         Some(format) => format.clone(),
@@ -185,7 +185,7 @@ pub fn ask_format<'a, 'run, 'src, S: Syntax, E: Evaluation>(
 ) -> Result<Option<Text>, Halt<'src>>
     requires covered { All (IsCovered (module_of body.now.context.now) body.now.scope.now) (in_attributes attribute_expressions body.now.recipe.now) }
     ensures keeps { KeepsPromises (E.promised evaluation.old) (E.promised evaluation.new) }
-    ensures took { let steps = spec.format_steps (spec.contents_of (S.answers body.now.syntax.now) body.now) in
+    ensures took { let steps = spec.format_steps (spec.body_contents_of (S.answers body.now.syntax.now) body.now) in
         AsksEvaluator (E.promised evaluation.old) steps (E.requests evaluation.old) (E.requests evaluation.new) result }
 {
     match timestamp_of(body.recipe.attributes.as_slice()) {
@@ -208,7 +208,7 @@ pub fn prepare<'a, 'run, 'src, S: Syntax, E: Evaluation>(
 ) -> Result<Preparation, Halt<'src>>
     requires covered { All (IsCovered (module_of body.now.context.now) body.now.scope.now) (in_attributes attribute_expressions body.now.recipe.now) }
     ensures keeps { KeepsPromises (E.promised evaluation.old) (E.promised evaluation.new) }
-    ensures took { let steps = spec.prepare_steps (spec.contents_of (S.answers body.now.syntax.now) body.now) in
+    ensures took { let steps = spec.body_prepare_steps (spec.body_contents_of (S.answers body.now.syntax.now) body.now) in
         AsksEvaluator (E.promised evaluation.old) steps (E.requests evaluation.old) (E.requests evaluation.new) result }
 {
     let working_directory = ask_directory(alloc, body, evaluation)?;
@@ -259,7 +259,7 @@ pub fn ask_changes<'a, 'run, 'src, S: Syntax, E: Evaluation>(
     evaluation: &mut E,
 ) -> Result<Sequence<EnvironmentChange>, Halt<'src>>
     ensures keeps { KeepsPromises (E.promised evaluation.old) (E.promised evaluation.new) }
-    ensures took { let steps = spec.environment_steps (spec.contents_of (S.answers body.now.syntax.now) body.now) in
+    ensures took { let steps = spec.environment_steps (spec.body_contents_of (S.answers body.now.syntax.now) body.now) in
         AsksEvaluator (E.promised evaluation.old) steps (E.requests evaluation.old) (E.requests evaluation.new) result }
 {
     let context = body.context;

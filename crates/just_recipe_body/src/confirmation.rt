@@ -7,7 +7,7 @@ ghost use Rattle.just_run_layers.specs.Covering.{IsCovered, module_of};
 ghost use Rattle.just_run_layers.specs.Host.{KeepsPromises};
 ghost use Rattle.just_run_layers.specs.Interactions.{HasTrace, both, log_of};
 ghost use Rattle.just_recipe_body.specs.Attributes.{first_said};
-ghost use Rattle.just_recipe_body.specs.Body.{contents_of};
+ghost use Rattle.just_recipe_body.specs.Body.{body_contents_of};
 ghost use Rattle.just_recipe_body.specs.Confirmation as spec;
 ghost use Rattle.just_recipe_body.specs.Taking.{AsksEvaluator, AsksHost};
 
@@ -92,7 +92,7 @@ pub fn confirm<'a, 'run, 'src, S: Syntax, E: Evaluation, H: Host>(
     ensures keeps_host { KeepsPromises (H.promised host.old) (H.promised host.new) }
     ensures took { let first = log_of (H.entries host.old) (E.requests evaluation.old) in
         let last = log_of (H.entries host.new) (E.requests evaluation.new) in
-        let steps = spec.confirm_steps (contents_of (S.answers body.now.syntax.now) body.now) in
+        let steps = spec.confirm_steps (body_contents_of (S.answers body.now.syntax.now) body.now) in
         HasTrace (both (E.promised evaluation.old) (H.promised host.old)) steps first last result }
 {
     match confirmation_of(body.recipe.attributes.as_slice()) {

@@ -11,7 +11,7 @@ ghost use Rattle.just_module_contents.specs.Resolved.{AreNew, HasPriors, unresol
 ghost use Rattle.just_module_contents.specs.Standing.{AreStanding, InStanding};
 ghost use Rattle.just_module_recipes.specs.Completed.{TellsLinks};
 ghost use Rattle.just_module_recipes.specs.Linked.{AddsLinked, AreSettled, HasDisabled};
-ghost use Rattle.just_module_recipes.specs.Links.{BreaksLinks, Disables, Stands, around};
+ghost use Rattle.just_module_recipes.specs.Links.{BreaksLinks, Disables, Stands, around_recipes};
 ghost use Rattle.just_names.specs.Index.{AreDifferent};
 ghost use Rattle.just_recipe_resolution.specs.Basis.{AreRecipesCovered, BreaksOn, TellsOn, basis_of, completion_on};
 
@@ -59,25 +59,25 @@ pub fn resolve_kept<'a, 'm, 'src, S: Syntax, E: ConstantEvaluation>(
     requires priors { All HasPriors (recipes_in kept.now) }
     requires apart { AreNew recipes (recipes_in kept.now) }
     requires ordered { AreOrdered modules.now }
-    requires settled { AreSettled (around absent.now modules.now recipes) }
+    requires settled { AreSettled (around_recipes absent.now modules.now recipes) }
     requires covered { AreRecipesCovered (basis_of resolving) (recipes_in kept.now) }
-    ensures kept { let it = around absent.now modules.now recipes.entry in
+    ensures kept { let it = around_recipes absent.now modules.now recipes.entry in
         IfOk result (λ _. Keeps (BreaksLinks resolving.entry.meanings.settings.now.lists (recipes_in kept.now) it)) }
     ensures own { let by = resolving.entry in
         let rule = BreaksOn (S.answers by.meanings.syntax.now) (E.answers by.among.evaluation.now) (basis_of by) in
-        let stands = Stands (recipes_in kept.now) (around absent.now modules.now recipes.entry) in
+        let stands = Stands (recipes_in kept.now) (around_recipes absent.now modules.now recipes.entry) in
         IfOk result (λ _. Keeps (InStanding stands rule (recipes_in kept.now))) }
-    ensures standing { let it = around absent.now modules.now recipes.entry in
+    ensures standing { let it = around_recipes absent.now modules.now recipes.entry in
         IfOk result (λ made. AreStanding (Stands (recipes_in kept.now) it) (recipes_in kept.now) (recipes_in made.standing)) }
-    ensures disabled { let it = around absent.now modules.now recipes.entry in
+    ensures disabled { let it = around_recipes absent.now modules.now recipes.entry in
         IfOk result (λ made. HasDisabled (Disables (recipes_in kept.now) it) (recipes_in kept.now) made.disabled) }
     ensures linked { let by = resolving.entry in
         let completed = completion_on (S.answers by.meanings.syntax.now) (E.answers by.among.evaluation.now) (basis_of by) in
-        let it = around absent.now modules.now recipes.entry in
+        let it = around_recipes absent.now modules.now recipes.entry in
         IfOk result (λ made. AddsLinked completed by.meanings.settings.now.lists (recipes_in kept.now) it module_path.now made.all) }
     ensures named { let by = resolving.entry in
         let tells = TellsOn (S.answers by.meanings.syntax.now) (E.answers by.among.evaluation.now) (basis_of by) in
-        let it = around absent.now modules.now recipes.entry in
+        let it = around_recipes absent.now modules.now recipes.entry in
         IfErr result (Reports (TellsLinks by.meanings.settings.now.lists tells (recipes_in kept.now) it)) }
 {
     let Resolving {

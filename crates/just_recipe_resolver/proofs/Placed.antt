@@ -1,6 +1,6 @@
 -- A recipe that is completed, linked and placed is resolved.
 use Rattle.std.proofs.Common.{◌≡◌, ◌∙◌, Bool, List, ap, subst, sym}
-use Rattle.just_module_contents.specs.Recipes.{name_of}
+use Rattle.just_module_contents.specs.Recipes.{name_of_recipe}
 use Rattle.just_module_contents.specs.Resolved.{path_to}
 use Rattle.just_module_recipes.specs.Completed.{with_needed}
 use Rattle.just_module_recipes.specs.Completing.{Completion}
@@ -13,9 +13,9 @@ use Rattle.just_recipe_resolver.specs.Resolved.{IsResolvedTo, links_to}
 use Rattle.just_recipe_resolver.specs.loops.Resolved.{IsCompleted}
 
 module _ (completed : Completion) (lists : Bool) (path : Modulepath) (r : Recipe UnresolvedDependency) (targets : List (Recipe Dependency)) (m : Recipe UnresolvedDependency) (links : List Dependency) (made : Recipe Dependency) where
-  pub placed_so : IsCompleted completed r m → links ≡ links_to lists m.dependencies targets → made ≡ resolved m links path (path_to path (name_of m)) → IsResolvedTo completed lists path r targets made
+  pub placed_so : IsCompleted completed r m → links ≡ links_to lists m.dependencies targets → made ≡ resolved m links path (path_to path (name_of_recipe m)) → IsResolvedTo completed lists path r targets made
   placed_so done l e =
-      let whole : made ≡ resolved (with_needed (completed.by r) done.numbers) links path (path_to path (name_of (completed.by r))) = e ∙ (λ i. resolved (done.made_is i) links path (path_to path (name_of (done.made_is i)))) in
+      let whole : made ≡ resolved (with_needed (completed.by r) done.numbers) links path (path_to path (name_of_recipe (completed.by r))) = e ∙ (λ i. resolved (done.made_is i) links path (path_to path (name_of_recipe (done.made_is i)))) in
       record {
         resolved = record {
           name = ap (λ (x : Recipe Dependency). x.name) whole;

@@ -21,8 +21,8 @@ use Rattle.just_recipe.specs.declared.dependency.UnresolvedDependency.{Unresolve
 use Rattle.just_recipe.specs.declared.recipe.Recipe.{Recipe}
 
 -- the recipes of a table that are kept: all, where each stands under its own name
-abbrev pub kept_in : List (Text × Recipe UnresolvedDependency) → List (Recipe UnresolvedDependency)
-kept_in table = kept_recipes (values_of table)
+abbrev pub kept_in_table : List (Text × Recipe UnresolvedDependency) → List (Recipe UnresolvedDependency)
+kept_in_table table = kept_recipes (values_of table)
 
 -- The kept recipes of the module at a path are resolved over what is around them: a table has the keys of those that stand, another one the others with what disables them, and those that stand are among all recipes, behind those that were held.
 pub record AreResolved (completed : Completion) (lists : Bool) (recipes : List (Recipe UnresolvedDependency)) (it : Around) (path : Modulepath) (keys : List (Text × RecipeKey)) (disabled : List (Text × Disabled)) (all : List (Recipe Dependency)) : Type 0 where

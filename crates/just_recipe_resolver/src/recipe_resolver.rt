@@ -11,9 +11,9 @@ ghost use Rattle.just_module_contents.specs.Resolved.{AreNew, HasPriors, unresol
 ghost use Rattle.just_module_contents.specs.Standing.{InStanding};
 ghost use Rattle.just_module_recipes.specs.Completed.{TellsLinks};
 ghost use Rattle.just_module_recipes.specs.Linked.{AreSettled};
-ghost use Rattle.just_module_recipes.specs.Links.{BreaksLinks, Stands, around};
+ghost use Rattle.just_module_recipes.specs.Links.{BreaksLinks, Stands, around_recipes};
 ghost use Rattle.just_recipe_resolution.specs.Basis.{AreRecipesCovered, BreaksOn, TellsOn, basis_by, basis_of, completion_on};
-ghost use Rattle.just_recipe_resolver.specs.Resolved.{AreResolved, kept_in};
+ghost use Rattle.just_recipe_resolver.specs.Resolved.{AreResolved, kept_in_table};
 
 use just_data::BorrowedText;
 use just_justfile::{Disabled, Justfile, RecipeKey};
@@ -113,23 +113,23 @@ impl RecipeResolver {
         requires priors { All HasPriors (values_of unresolved) }
         requires apart { AreNew recipes (values_of unresolved) }
         requires ordered { AreOrdered modules.now }
-        requires settled { AreSettled (around absent_modules.now modules.now recipes) }
+        requires settled { AreSettled (around_recipes absent_modules.now modules.now recipes) }
         requires covered { AreRecipesCovered (basis_by variable_resolver.now constants.now settings.now) (values_of unresolved) }
-        ensures kept { let it = around absent_modules.now modules.now recipes.entry in
-            IfOk result (λ _. Keeps (BreaksLinks settings.now.lists (kept_in unresolved.entry) it)) }
+        ensures kept { let it = around_recipes absent_modules.now modules.now recipes.entry in
+            IfOk result (λ _. Keeps (BreaksLinks settings.now.lists (kept_in_table unresolved.entry) it)) }
         ensures own { let basis = basis_by variable_resolver.now constants.now settings.now in
             let rule = BreaksOn (S.answers syntax.now) (E.answers evaluation.now) basis in
-            let stands = Stands (kept_in unresolved.entry) (around absent_modules.now modules.now recipes.entry) in
-            IfOk result (λ _. Keeps (InStanding stands rule (kept_in unresolved.entry))) }
+            let stands = Stands (kept_in_table unresolved.entry) (around_recipes absent_modules.now modules.now recipes.entry) in
+            IfOk result (λ _. Keeps (InStanding stands rule (kept_in_table unresolved.entry))) }
         ensures resolved { let basis = basis_by variable_resolver.now constants.now settings.now in
             let completed = completion_on (S.answers syntax.now) (E.answers evaluation.now) basis in
-            let it = around absent_modules.now modules.now recipes.entry in
-            let are = AreResolved completed settings.now.lists (kept_in unresolved.entry) it module_path.now in
+            let it = around_recipes absent_modules.now modules.now recipes.entry in
+            let are = AreResolved completed settings.now.lists (kept_in_table unresolved.entry) it module_path.now in
             IfOk result (λ made. are made.0 made.1 made.2) }
         ensures named { let basis = basis_by variable_resolver.now constants.now settings.now in
             let tells = TellsOn (S.answers syntax.now) (E.answers evaluation.now) basis in
-            let it = around absent_modules.now modules.now recipes.entry in
-            IfErr result (Reports (TellsLinks settings.now.lists tells (kept_in unresolved.entry) it)) }
+            let it = around_recipes absent_modules.now modules.now recipes.entry in
+            IfErr result (Reports (TellsLinks settings.now.lists tells (kept_in_table unresolved.entry) it)) }
     {
         let definitions = recipes_of(alloc, &unresolved)?;
         let kept = keep_recipes(alloc, &definitions)?;

@@ -2,7 +2,7 @@
 
 ghost use Rattle.std.specs.Prelude.{◌≡◌, ◌<◌, ◌⊎◌, IfErr, IfOk, OnOk, Some, length, slice_get};
 ghost use Rattle.just_errors.specs.Causes.{Keeps, Reports};
-ghost use Rattle.just_module_contents.specs.Recipes.{lent, name_of};
+ghost use Rattle.just_module_contents.specs.Recipes.{lent, name_of_recipe};
 ghost use Rattle.just_module_contents.specs.Resolved.{path_to};
 ghost use Rattle.just_recipe.specs.Resolved.{resolved};
 ghost use Rattle.just_recipe_resolution.specs.Basis.{BreaksOn, IsRecipeCovered, TellsOn, basis_by, basis_of, completion_on};
@@ -134,7 +134,7 @@ fn placed<'src>(
     module_path: &Modulepath,
 ) -> Result<Recipe<'src>, AllocError>
     ensures { let path = module_path.now in
-        IfOk result (λ made. made ≡ resolved completed.entry dependencies.entry path (path_to path (name_of completed.entry))) }
+        IfOk result (λ made. made ≡ resolved completed.entry dependencies.entry path (path_to path (name_of_recipe completed.entry))) }
 {
     let recipe_path = module_path.join(completed.name.lexeme())?;
     Ok(completed.resolved(dependencies, module_path.clone()?, recipe_path))

@@ -38,7 +38,7 @@ pub trait RunRecipe<'src> {
     ghost use Rattle.std.specs.List.{All};
     ghost use Rattle.just_parts.specs.Scopes.{attribute_expressions, in_attributes};
     ghost use Rattle.just_run_layers.specs.Covering.{IsCovered, module_of};
-    ghost use Rattle.just_run_layers.specs.Evaluation.{contents_of};
+    ghost use Rattle.just_run_layers.specs.Evaluation.{context_contents_of};
     ghost use Rattle.just_run_layers.specs.Host.{KeepsPromises};
     ghost use Rattle.just_run_layers.specs.LineTexts.{AgreesWith};
     ghost use Rattle.just_run_layers.specs.Interactions.{HasTrace, both, log_of};
@@ -79,7 +79,7 @@ pub trait RunRecipe<'src> {
         ensures keeps_host { KeepsPromises (H.promised host.old) (H.promised host.new) }
         ensures took { let first = log_of (H.entries host.old) (E.requests evaluation.old) in
             let last = log_of (H.entries host.new) (E.requests evaluation.new) in
-            let by = body_by (S.answers syntax.now) (contents_of context.now) (recipe_of self.now) in
+            let by = body_by (S.answers syntax.now) (context_contents_of context.now) (recipe_of self.now) in
             let steps = recipe_steps (by environment.now is_dependency positional.now scope.now) in
             HasTrace (both (E.promised evaluation.old) (H.promised host.old)) steps first last result };
 
@@ -104,7 +104,7 @@ pub trait RunRecipe<'src> {
         ensures keeps_host { KeepsPromises (H.promised host.old) (H.promised host.new) }
         ensures took { let first = log_of (H.entries host.old) (E.requests evaluation.old) in
             let last = log_of (H.entries host.new) (E.requests evaluation.new) in
-            let by = body_by (S.answers syntax.now) (contents_of context.now) (recipe_of self.now) in
+            let by = body_by (S.answers syntax.now) (context_contents_of context.now) (recipe_of self.now) in
             let steps = script_steps (by environment.now is_dependency positional.now scope.now) in
             HasTrace (both (E.promised evaluation.old) (H.promised host.old)) steps first last result };
 
@@ -127,7 +127,7 @@ pub trait RunRecipe<'src> {
         ensures keeps_host { KeepsPromises (H.promised host.old) (H.promised host.new) }
         ensures took { let first = log_of (H.entries host.old) (E.requests evaluation.old) in
             let last = log_of (H.entries host.new) (E.requests evaluation.new) in
-            let by = body_by (S.answers syntax.now) (contents_of context.now) (recipe_of self.now) in
+            let by = body_by (S.answers syntax.now) (context_contents_of context.now) (recipe_of self.now) in
             let steps = confirm_steps (by [] is_dependency [] scope.now) in
             HasTrace (both (E.promised evaluation.old) (H.promised host.old)) steps first last result };
 

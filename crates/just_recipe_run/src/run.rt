@@ -4,7 +4,7 @@ ghost use Rattle.just_run_layers.specs.Covering.{module_of};
 ghost use Rattle.just_run_layers.specs.Host.{KeepsPromises};
 ghost use Rattle.just_run_layers.specs.LineTexts.{AgreesWith};
 ghost use Rattle.just_run_layers.specs.Interactions.{HasTrace, both, log_of};
-ghost use Rattle.just_recipe_body.specs.Body.{contents_of};
+ghost use Rattle.just_recipe_body.specs.Body.{body_contents_of};
 ghost use Rattle.just_recipe_body.specs.Taking.{AsksHost};
 ghost use Rattle.just_recipe_body.specs.Covering.{IsBodyCovered};
 ghost use Rattle.just_recipe_run.specs.RecipeRun as spec;
@@ -88,7 +88,7 @@ fn run_body<'a, 'run, 'src, S: Syntax, E: Evaluation, H: Host>(
     ensures keeps_host { KeepsPromises (H.promised host.old) (H.promised host.new) }
     ensures took { let first = log_of (H.entries host.old) (E.requests evaluation.old) in
         let last = log_of (H.entries host.new) (E.requests evaluation.new) in
-        let steps = spec.body_steps (contents_of (S.answers body.now.syntax.now) body.now) in
+        let steps = spec.body_steps (body_contents_of (S.answers body.now.syntax.now) body.now) in
         HasTrace (both (E.promised evaluation.old) (H.promised host.old)) steps first last result }
 {
     if body.recipe.is_script(body.context.settings) {
@@ -113,7 +113,7 @@ pub fn run_recipe<'a, 'run, 'src, S: Syntax, E: Evaluation, H: Host>(
     ensures keeps_host { KeepsPromises (H.promised host.old) (H.promised host.new) }
     ensures took { let first = log_of (H.entries host.old) (E.requests evaluation.old) in
         let last = log_of (H.entries host.new) (E.requests evaluation.new) in
-        let steps = spec.recipe_steps (contents_of (S.answers body.now.syntax.now) body.now) in
+        let steps = spec.recipe_steps (body_contents_of (S.answers body.now.syntax.now) body.now) in
         HasTrace (both (E.promised evaluation.old) (H.promised host.old)) steps first last result }
 {
     let config = body.context.config;

@@ -15,8 +15,8 @@ use Rattle.just_recipe_values.specs.declared.among.Among.{Among}
 use Rattle.std.specs.Prelude.{◌⊎◌}
 
 -- the value of an expression
-abbrev pub value_of : {E : Type 0} → Evaluator → Among E → Expression → Option (List Text)
-value_of evaluator it e = evaluator.value (functions_by_name it.functions.now) (scope_values it.constants.now) (bare e)
+abbrev pub value_in_module : {E : Type 0} → Evaluator → Among E → Expression → Option (List Text)
+value_in_module evaluator it e = evaluator.value (functions_by_name it.functions.now) (scope_values it.constants.now) (bare e)
 
 -- whatever the docs, helps and patterns of a recipe read has a value
 abbrev pub CoversRecipe : {E : Type 0} → Among E → Recipe UnresolvedDependency → Type 0

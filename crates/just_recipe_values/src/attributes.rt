@@ -5,7 +5,7 @@ ghost use Rattle.std.specs.Option.{option_and_then};
 ghost use Rattle.just_errors.specs.Causes.{Reports};
 ghost use Rattle.just_module_contents.specs.RecipeValues.{patterns_in};
 ghost use Rattle.just_parts.specs.Scopes.{compiled_expressions};
-ghost use Rattle.just_recipe_values.specs.Among.{value_of};
+ghost use Rattle.just_recipe_values.specs.Among.{value_in_module};
 ghost use Rattle.just_recipe_values.specs.loops.Judged.{AreSound, CoversEach, Faults, argument_expressions, expressions_among, patterns_among};
 ghost use Rattle.just_recipe_values.specs.Valued.{doc_after, doc_of_value, last_doc, valued_argument, valued_attribute, valued_named};
 
@@ -24,11 +24,11 @@ fn valued_argument<'a, 'src, E: ConstantEvaluation>(
     argument: ArgumentAttribute<'src, Expression<'src>>,
 ) -> Result<ArgumentAttribute<'src, Expression<'src>>, Error<'src>>
     requires { CoversEach among.now (argument_expressions argument) }
-    ensures kept { let value = value_of (E.answers among.now.evaluation.now) among.now in
+    ensures kept { let value = value_in_module (E.answers among.now.evaluation.now) among.now in
         IfOk result (λ _. AreSound value (argument_expressions argument.entry) (option_to_list argument.entry.pattern_property)) }
-    ensures made { let value = value_of (E.answers among.now.evaluation.now) among.now in
+    ensures made { let value = value_in_module (E.answers among.now.evaluation.now) among.now in
         IfOk result (λ made. made ≡ valued_argument value argument.entry) }
-    ensures named { let value = value_of (E.answers among.now.evaluation.now) among.now in
+    ensures named { let value = value_in_module (E.answers among.now.evaluation.now) among.now in
         let faults = Faults value (argument_expressions argument.entry) (option_to_list argument.entry.pattern_property) in
         IfErr result (Reports faults) }
 {
@@ -62,11 +62,11 @@ fn doc_of<'a, 'src, E: ConstantEvaluation>(
     expression: &Expression<'src>,
 ) -> Result<Option<Text>, Error<'src>>
     requires { CoversEach among.now (expression.now ∷ []) }
-    ensures kept { let value = value_of (E.answers among.now.evaluation.now) among.now in
+    ensures kept { let value = value_in_module (E.answers among.now.evaluation.now) among.now in
         IfOk result (λ _. AreSound value (expression.now ∷ []) []) }
-    ensures doc { let value = value_of (E.answers among.now.evaluation.now) among.now in
+    ensures doc { let value = value_in_module (E.answers among.now.evaluation.now) among.now in
         IfOk result (λ doc. doc ≡ option_and_then doc_of_value (value expression.now)) }
-    ensures named { let value = value_of (E.answers among.now.evaluation.now) among.now in
+    ensures named { let value = value_in_module (E.answers among.now.evaluation.now) among.now in
         IfErr result (Reports (Faults value (expression.now ∷ []) [])) }
 {
     let value = value_of(alloc, among, expression)?;
@@ -81,13 +81,13 @@ fn valued_attribute<'a, 'src, E: ConstantEvaluation>(
     doc: Option<Text>,
 ) -> Result<(Attribute<'src>, Option<Text>), Error<'src>>
     requires { CoversEach among.now (compiled_expressions attribute) }
-    ensures kept { let value = value_of (E.answers among.now.evaluation.now) among.now in
+    ensures kept { let value = value_in_module (E.answers among.now.evaluation.now) among.now in
         IfOk result (λ _. AreSound value (compiled_expressions attribute.entry) (patterns_in attribute.entry)) }
-    ensures attribute { let value = value_of (E.answers among.now.evaluation.now) among.now in
+    ensures attribute { let value = value_in_module (E.answers among.now.evaluation.now) among.now in
         IfOk result (λ both. both.0 ≡ valued_attribute value attribute.entry) }
-    ensures doc { let value = value_of (E.answers among.now.evaluation.now) among.now in
+    ensures doc { let value = value_in_module (E.answers among.now.evaluation.now) among.now in
         IfOk result (λ both. both.1 ≡ doc_after value attribute.entry doc) }
-    ensures named { let value = value_of (E.answers among.now.evaluation.now) among.now in
+    ensures named { let value = value_in_module (E.answers among.now.evaluation.now) among.now in
         IfErr result (Reports (Faults value (compiled_expressions attribute.entry) (patterns_in attribute.entry))) }
 {
     match attribute {
@@ -111,13 +111,13 @@ pub fn valued_attributes<'a, 'src, E: ConstantEvaluation>(
     mut doc: Option<Text>,
 ) -> Result<(Sequence<NamedAttribute<'src>>, Option<Text>), Error<'src>>
     requires { CoversEach among.now (expressions_among attributes) }
-    ensures kept { let value = value_of (E.answers among.now.evaluation.now) among.now in
+    ensures kept { let value = value_in_module (E.answers among.now.evaluation.now) among.now in
         IfOk result (λ _. AreSound value (expressions_among attributes.entry) (patterns_among attributes.entry)) }
-    ensures attributes { let value = value_of (E.answers among.now.evaluation.now) among.now in
+    ensures attributes { let value = value_in_module (E.answers among.now.evaluation.now) among.now in
         IfOk result (λ both. both.0 ≡ map (valued_named value) attributes.entry) }
-    ensures doc { let value = value_of (E.answers among.now.evaluation.now) among.now in
+    ensures doc { let value = value_in_module (E.answers among.now.evaluation.now) among.now in
         IfOk result (λ both. both.1 ≡ last_doc value attributes.entry doc) }
-    ensures named { let value = value_of (E.answers among.now.evaluation.now) among.now in
+    ensures named { let value = value_in_module (E.answers among.now.evaluation.now) among.now in
         IfErr result (Reports (Faults value (expressions_among attributes.entry) (patterns_among attributes.entry))) }
 {
     let mut made = Vec::with_capacity(alloc, attributes.len())?;

@@ -5,7 +5,7 @@ ghost use Rattle.std.specs.Option.{option_and_then, option_or};
 ghost use Rattle.just_errors.specs.Causes.{Reports};
 ghost use Rattle.just_module_contents.specs.RecipeValues.{text_said};
 ghost use Rattle.just_parts.specs.Scopes.{property_expressions};
-ghost use Rattle.just_recipe_values.specs.Among.{value_of};
+ghost use Rattle.just_recipe_values.specs.Among.{value_in_module};
 ghost use Rattle.just_recipe_values.specs.loops.Judged.{AreSound, CoversEach, Faults};
 
 use crate::among::Among;
@@ -23,11 +23,11 @@ pub fn value_of<'a, 'src, E: ConstantEvaluation>(
     expression: &Expression<'src>,
 ) -> Result<Sequence<Text>, Error<'src>>
     requires { CoversEach among.now (expression.now ∷ []) }
-    ensures kept { let value = value_of (E.answers among.now.evaluation.now) among.now in
+    ensures kept { let value = value_in_module (E.answers among.now.evaluation.now) among.now in
         IfOk result (λ _. AreSound value (expression.now ∷ []) []) }
-    ensures value { let value = value_of (E.answers among.now.evaluation.now) among.now in
+    ensures value { let value = value_in_module (E.answers among.now.evaluation.now) among.now in
         IfOk result (λ texts. value expression.now ≡ Some texts) }
-    ensures named { let value = value_of (E.answers among.now.evaluation.now) among.now in
+    ensures named { let value = value_in_module (E.answers among.now.evaluation.now) among.now in
         IfErr result (Reports (Faults value (expression.now ∷ []) [])) }
 {
     among.evaluation.value_const(
@@ -46,11 +46,11 @@ fn text_said<'a, 'src, E: ConstantEvaluation>(
     property: &ArgumentProperty<'src, Expression<'src>>,
 ) -> Result<Option<Text>, Error<'src>>
     requires { CoversEach among.now (property.now.value ∷ []) }
-    ensures kept { let value = value_of (E.answers among.now.evaluation.now) among.now in
+    ensures kept { let value = value_in_module (E.answers among.now.evaluation.now) among.now in
         IfOk result (λ _. AreSound value (property.now.value ∷ []) []) }
-    ensures text { let value = value_of (E.answers among.now.evaluation.now) among.now in
+    ensures text { let value = value_in_module (E.answers among.now.evaluation.now) among.now in
         IfOk result (λ text. text ≡ text_said value property.now) }
-    ensures named { let value = value_of (E.answers among.now.evaluation.now) among.now in
+    ensures named { let value = value_in_module (E.answers among.now.evaluation.now) among.now in
         IfErr result (Reports (Faults value (property.now.value ∷ []) [])) }
 {
     let value = value_of(alloc, among, &property.value)?;
@@ -64,11 +64,11 @@ pub fn help_of<'a, 'src, E: ConstantEvaluation>(
     argument: &ArgumentAttribute<'src, Expression<'src>>,
 ) -> Result<Option<Text>, Error<'src>>
     requires { CoversEach among.now (property_expressions argument.now.help_property) }
-    ensures kept { let value = value_of (E.answers among.now.evaluation.now) among.now in
+    ensures kept { let value = value_in_module (E.answers among.now.evaluation.now) among.now in
         IfOk result (λ _. AreSound value (property_expressions argument.now.help_property) []) }
-    ensures help { let value = value_of (E.answers among.now.evaluation.now) among.now in
+    ensures help { let value = value_in_module (E.answers among.now.evaluation.now) among.now in
         IfOk result (λ help. help ≡ option_or (option_and_then (text_said value) argument.now.help_property) argument.now.help) }
-    ensures named { let value = value_of (E.answers among.now.evaluation.now) among.now in
+    ensures named { let value = value_in_module (E.answers among.now.evaluation.now) among.now in
         IfErr result (Reports (Faults value (property_expressions argument.now.help_property) [])) }
 {
     let Some(property) = &argument.help_property else {
@@ -87,13 +87,13 @@ pub fn pattern_of<'a, 'src, E: ConstantEvaluation>(
     argument: &ArgumentAttribute<'src, Expression<'src>>,
 ) -> Result<Option<Pattern>, Error<'src>>
     requires { CoversEach among.now (property_expressions argument.now.pattern_property) }
-    ensures kept { let value = value_of (E.answers among.now.evaluation.now) among.now in
+    ensures kept { let value = value_in_module (E.answers among.now.evaluation.now) among.now in
         let said = argument.now.pattern_property in
         IfOk result (λ _. AreSound value (property_expressions said) (option_to_list said)) }
-    ensures pattern { let value = value_of (E.answers among.now.evaluation.now) among.now in
+    ensures pattern { let value = value_in_module (E.answers among.now.evaluation.now) among.now in
         let said = argument.now.pattern_property in
         IfOk result (λ pattern. pattern ≡ option_or (option_and_then (text_said value) said) argument.now.pattern) }
-    ensures named { let value = value_of (E.answers among.now.evaluation.now) among.now in
+    ensures named { let value = value_in_module (E.answers among.now.evaluation.now) among.now in
         let said = argument.now.pattern_property in
         IfErr result (Reports (Faults value (property_expressions said) (option_to_list said))) }
 {

@@ -3,7 +3,7 @@
 ghost use Rattle.std.specs.Prelude.{◌≡◌, IfOk, IfErr};
 ghost use Rattle.just_errors.specs.Causes.{Keeps, Reports};
 ghost use Rattle.just_module_contents.specs.RecipeValues.{Unvalued};
-ghost use Rattle.just_recipe_values.specs.Among.{CoversRecipe, TellsOf, value_of};
+ghost use Rattle.just_recipe_values.specs.Among.{CoversRecipe, TellsOf, value_in_module};
 ghost use Rattle.just_recipe_values.specs.Valued.{with_values};
 
 use crate::among::Among;
@@ -23,11 +23,11 @@ pub fn valued_recipe<'a, 'src, E: ConstantEvaluation>(
     recipe: UnresolvedRecipe<'src>,
 ) -> Result<UnresolvedRecipe<'src>, Error<'src>>
     requires { CoversRecipe among.now recipe }
-    ensures kept { let value = value_of (E.answers among.now.evaluation.now) among.now in
+    ensures kept { let value = value_in_module (E.answers among.now.evaluation.now) among.now in
         IfOk result (λ _. Keeps (Unvalued value recipe.entry)) }
-    ensures made { let value = value_of (E.answers among.now.evaluation.now) among.now in
+    ensures made { let value = value_in_module (E.answers among.now.evaluation.now) among.now in
         IfOk result (λ made. made ≡ with_values value recipe.entry) }
-    ensures named { let value = value_of (E.answers among.now.evaluation.now) among.now in
+    ensures named { let value = value_in_module (E.answers among.now.evaluation.now) among.now in
         IfErr result (Reports (TellsOf value recipe.entry)) }
 {
     let (attributes, doc) = valued_attributes(alloc, among, recipe.attributes, recipe.doc)?;

@@ -8,7 +8,7 @@ use Rattle.std.proofs.lemmas.List.{append-nil, map-append, take_more, get_or-map
 use Rattle.std.proofs.lemmas.Map.Made.{Contains-tail}
 use Rattle.just_recipe.specs.declared.dependency.Dependency.{Dependency}
 use Rattle.just_recipe.specs.declared.recipe.Recipe.{Recipe}
-use Rattle.just_recipe.specs.Recipes.{numbers, find_number, IsPlaceOf, IsIndex}
+use Rattle.just_recipe.specs.Recipes.{numbers, find_number, IsPlaceOf, IsNumberIndex}
 use Rattle.just_recipes.specs.Places.{place_of}
 use Rattle.just_recipes.proofs.RecipeLemmas.{once}
 
@@ -34,9 +34,9 @@ place-first (x ∷ rs) n (suc p) h e first =
     ap suc (place-first rs n p (omega arith) e (λ i l. first (suc i) (omega arith)))
     ∙ sym (cond-false (x.number.0 == n) 0 (suc (place_of rs n)) (ne_eqb x.number.0 n (first 0 (omega arith))))
 
-pub place-is : (inside rs : List (Recipe Dependency)) (index : ℕ → Option ℕ) (n p : ℕ) → inside ≡ rs → IsIndex inside index → IsPlaceOf rs n p → p ≡ place_of rs n
+pub place-is : (inside rs : List (Recipe Dependency)) (index : ℕ → Option ℕ) (n p : ℕ) → inside ≡ rs → IsNumberIndex inside index → IsPlaceOf rs n p → p ≡ place_of rs n
 place-is inside rs index n p same indexed at =
-    let here : IsIndex rs index = subst (λ xs. IsIndex xs index) same indexed in
+    let here : IsNumberIndex rs index = subst (λ xs. IsNumberIndex xs index) same indexed in
     place-first rs n p at.0 at.1 (λ i h e.
     let in_i : i < length rs = omega (arith, at.0) in
     let equal : i ≡ p = once rs index here i p in_i at.0 (e ∙ sym at.1) in

@@ -4,7 +4,7 @@ ghost use Rattle.std.specs.List.{All, Contains};
 ghost use Rattle.std.specs.Option.{option_copied};
 ghost use Rattle.std.specs.HashMap.{get};
 ghost use Rattle.just_recipes.specs.Places.{place_of};
-ghost use Rattle.just_recipe.specs.Recipes.{numbers, needs, find_number, IsOrdered, IsPlaceOf, IsNew, AreApart};
+ghost use Rattle.just_recipe.specs.Recipes.{numbers, needs, find_number, DependenciesStandFirst, IsPlaceOf, IsNew, ShareNoNumber};
 
 use just_names::Number;
 use just_recipe::Recipe;
@@ -30,7 +30,7 @@ impl<'src> Model for Recipes<'src> {
     ghost use Rattle.just_recipe.specs.declared.recipe.Recipe.{Recipe};
     ghost use Rattle.just_ast_expressions.specs.contracts.expression.Shape as shape;
     ghost use Rattle.just_ast_expressions.specs.contracts.expression.Expression as expression;
-    ghost use Rattle.just_recipe.specs.Recipes.{IsOrdered, IsIndex};
+    ghost use Rattle.just_recipe.specs.Recipes.{DependenciesStandFirst, IsNumberIndex};
 
     ghost Value = { List (Recipe Dependency) };
 
@@ -38,7 +38,7 @@ impl<'src> Model for Recipes<'src> {
 
     ghost view = { λ r. r.recipes.items };
 
-    ghost invariant = { λ r. IsOrdered r.recipes.items × IsIndex r.recipes.items (get nat_eq r.places) };
+    ghost invariant = { λ r. DependenciesStandFirst r.recipes.items × IsNumberIndex r.recipes.items (get nat_eq r.places) };
 }
 
 impl<'src> Recipes<'src> {
@@ -90,7 +90,7 @@ impl<'src> Recipes<'src> {
 
     /// A law, which does nothing: each recipe has a number of its own, and stands after those that it depends on.
     pub fn are_ordered(&self)
-        ensures { IsOrdered self.now }
+        ensures { DependenciesStandFirst self.now }
     {
         let _ = &self.recipes;
     }
@@ -121,7 +121,7 @@ impl<'src> Recipes<'src> {
 
     /// Moves the recipes of `other` to the end. Where memory is refused, both stand.
     pub fn append(&mut self, other: &mut Recipes<'src>) -> Result<(), AllocError>
-        requires { AreApart self.old other.old }
+        requires { ShareNoNumber self.old other.old }
         ensures ok { OnOk result (self.new ≡ self.old ++ other.old) }
         ensures emptied { OnOk result (other.new ≡ []) }
         ensures err { OnErr result (self.new ≡ self.old) }

@@ -6,7 +6,7 @@ use Rattle.just_errors.specs.declared.halt.Halt.{Halt}
 use Rattle.just_errors.specs.declared.halt.Halt.TheVariants.{Memory}
 use Rattle.just_run_layers.specs.declared.host.Entry.{Entry}
 use Rattle.just_run_layers.specs.Evaluation.{Inquiry, ScopeRequest, requests_of, requested}
-use Rattle.just_run_layers.specs.Host.{Answer, Answers, KeepsPromises, kept}
+use Rattle.just_run_layers.specs.Host.{Answer, Answers, KeepsPromises, kept_call}
 use Rattle.just_run_layers.specs.Interactions.{Question, ToHost, ToEvaluator, both, Interaction, Return, Fail, Ask, and_then, CanReturn, Log, log_of, logged, logged_all, HasTrace, trace_under, result_under, ArePromised, calls, requests_in, IsTraceOrPrefix}
 
 -- promises
@@ -127,7 +127,7 @@ pub exited : {A : Type 0} (r : Result A Halt) (e : Halt) → IsErrAnd r (λ y. y
 exited (Ok x) e h = absurd h
 exited (Err y) e h = ap (λ z. Err z) h
 
--- one question: one to the evaluator that is not kept, one for variables, and one to the host
+-- one question: one to the evaluator that is not kept_call, one for variables, and one to the host
 pub took-asked : {A : Type 0} (e : Inquiry → Option Answer) (h : Entry → Option Answer) (x : Inquiry) (g : Answer → Interaction A) (a : Answer) (entries : List Entry) (before later : List ScopeRequest) (new : Log) (r : Result A Halt) →
     requests_of x ≡ [] → Answers (e x) (Some a) → later ≡ before → HasTrace (both e h) (g a) (log_of entries later) new r → HasTrace (both e h) (Ask (ToEvaluator x) g) (log_of entries before) new r
 took-asked e h x g a entries before later new r none l n t =
@@ -139,7 +139,7 @@ took-requested e h x g a entries before later new r l n t =
     inr (a, (λ b m. l b a m refl), subst (λ rs. HasTrace (both e h) (g a) (log_of entries rs) new r) n t)
 
 pub took-called : {A : Type 0} (e : Inquiry → Option Answer) (h : Entry → Option Answer) (x : Entry) (g : Answer → Interaction A) (a : Answer) (requests : List ScopeRequest) (before later : List Entry) (new : Log) (r : Result A Halt) →
-    Answers (h x) (Some a) → later ≡ before ++ kept x (Some a) → HasTrace (both e h) (g a) (log_of later requests) new r → HasTrace (both e h) (Ask (ToHost x) g) (log_of before requests) new r
+    Answers (h x) (Some a) → later ≡ before ++ kept_call x (Some a) → HasTrace (both e h) (g a) (log_of later requests) new r → HasTrace (both e h) (Ask (ToHost x) g) (log_of before requests) new r
 took-called e h x g a requests before later new r l n t =
     inr (a, (λ b m. l b a m refl), subst (λ es. HasTrace (both e h) (g a) (log_of es requests) new r) n t)
 

@@ -1,5 +1,5 @@
 -- What the questions of a run ask of the scope that is handed over, and what they bind.
-use Rattle.std.specs.Prelude.{◌≡◌, Bool, true, false, ◌||◌, List, [], ◌∷◌, Option, None, Some, IsSome, IfSome, flat_map}
+use Rattle.std.specs.Prelude.{◌≡◌, Bool, true, false, ◌||◌, List, [], ◌∷◌, Option, None, Some, IsSome, IfSome}
 use Rattle.std.specs.HashMap.{get}
 use Rattle.std.specs.List.{list_any}
 use Rattle.std.specs.Str.{bytes_eq}
@@ -11,9 +11,6 @@ use Rattle.just_names.specs.Name.{text_of_name}
 use Rattle.just_names.specs.Texts.{Text}
 use Rattle.just_names.specs.declared.number.Number.{Number}
 use Rattle.just_ast_definitions.specs.declared.assignment.Assignment.{Assignment}
-use Rattle.just_ast_definitions.specs.declared.line.Fragment.{Fragment}
-use Rattle.just_ast_definitions.specs.declared.line.Fragment.TheVariants as fragment
-use Rattle.just_ast_definitions.specs.declared.line.Line.{Line}
 use Rattle.just_ast_definitions.specs.declared.parameter.Parameter.{Parameter}
 use Rattle.just_table.specs.Entries.{find}
 use Rattle.just_run_layers.specs.declared.context.Context.{Context}
@@ -40,14 +37,6 @@ pub record IsCovered (m : Known) (scope : Scope) (e : Expression) : Type 0 where
   pub hidden : Text → Bool
   pub bound : (name : Text) → hidden name ≡ true → IsSome (scope_values scope name)
   pub covers : BindsRead m hidden scope e
-
--- the expressions of a line
-abbrev pub fragment_expressions : Fragment → List Expression
-fragment_expressions (fragment.Text token) = []
-fragment_expressions (fragment.Interpolation e) = e ∷ []
-
-abbrev pub line_expressions : Line → List Expression
-line_expressions line = flat_map fragment_expressions line.fragments
 
 -- a parameter has the name
 abbrev pub has_parameter : List Parameter → Text → Bool

@@ -78,8 +78,8 @@ pub record ContextContents : Type 0 where
   pub settings : Settings
   pub unexports : List Name
 
-abbrev pub contents_of : Context → ContextContents
-contents_of context = record {
+abbrev pub context_contents_of : Context → ContextContents
+context_contents_of context = record {
   config = config_contents context.config.now;
   dotenv = context.dotenv;
   module_path = context.module_path.now;
@@ -112,7 +112,7 @@ pub record Surroundings : Type 0 where
 
 abbrev pub surroundings : Context → Scope → Bool → List EnvironmentPair → Surroundings
 surroundings context scope is_dependency environment =
-    record { context = contents_of context; scope = scope; is_dependency = is_dependency; environment = environment }
+    record { context = context_contents_of context; scope = scope; is_dependency = is_dependency; environment = environment }
 
 -- A question: the values of variables, under the scope of a parent; those of parameters, by the texts that they are given; the value of an expression, the same as one text, or the text of a line; or what programs have in their environment.
 pub data Inquiry : Type 0 where

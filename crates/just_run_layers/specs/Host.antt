@@ -33,10 +33,10 @@ KeepsPromises {Q} old new = (question : Q) (answer : Answer) → old question �
 abbrev pub Answers : Option Answer → Option Answer → Type 0
 Answers promise given = (a b : Answer) → promise ≡ Some a → given ≡ Some b → a ≡ b
 
--- a call is kept where it is answered
-abbrev pub kept : Entry → Option Answer → List Entry
-kept entry None = []
-kept entry (Some answer) = entry ∷ []
+-- a call is kept_call where it is answered
+abbrev pub kept_call : Entry → Option Answer → List Entry
+kept_call entry None = []
+kept_call entry (Some answer) = entry ∷ []
 
 -- the answer of a call that answers nothing but that it is done; none for want of memory
 abbrev pub done_answer : {A E : Type 0} → Result A E → Option Answer
@@ -64,8 +64,8 @@ paired pairs = Paired pairs
 abbrev pub valued : List Text → Answer
 valued value = Valued value
 
-abbrev pub scoped : Scope → Answer
-scoped scope = ScopeGiven scope
+abbrev pub answer_of_scope : Scope → Answer
+answer_of_scope scope = ScopeGiven scope
 
 abbrev pub bound_to : Held → Answer
 bound_to bound = Bound bound

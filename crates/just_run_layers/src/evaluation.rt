@@ -7,9 +7,10 @@ ghost use Rattle.just_ast_expressions.specs.declared.settings.Settings.{Settings
 ghost use Rattle.just_ast_expressions.specs.declared.sigil.Sigil.{Sigil};
 ghost use Rattle.just_parts.specs.Evaluator.{Binds};
 ghost use Rattle.just_parts.specs.Known.{none_hidden};
-ghost use Rattle.just_run_layers.specs.Covering.{AreParametersCovered, BindsParameters, HasEvaluationOrder, IsClosedIn, IsCovered, line_expressions, module_of, wanted_in};
-ghost use Rattle.just_run_layers.specs.Evaluation.{Inquiry, ScopeRequest, contents_of, requested, set_of, surroundings};
-ghost use Rattle.just_run_layers.specs.Host.{Answer, Answers, KeepsPromises, answered, bound_to, changed, given, scoped, valued};
+ghost use Rattle.just_run_layers.specs.Covering.{AreParametersCovered, BindsParameters, HasEvaluationOrder, IsClosedIn, IsCovered, module_of, wanted_in};
+ghost use Rattle.just_parts.specs.Scopes.{line_expressions};
+ghost use Rattle.just_run_layers.specs.Evaluation.{Inquiry, ScopeRequest, context_contents_of, requested, set_of, surroundings};
+ghost use Rattle.just_run_layers.specs.Host.{Answer, Answers, KeepsPromises, answered, bound_to, changed, given, answer_of_scope, valued};
 ghost use Rattle.just_run_layers.specs.LineTexts.{BeginsPlain, EndsWithBackslash};
 
 use crate::context::Context;
@@ -54,10 +55,10 @@ pub trait Evaluation: ConstantEvaluation {
         requires order { HasEvaluationOrder context.now }
         requires closed { IsClosedIn context.now (set_of set) }
         ensures binds { IfOk result (Binds context.now.assignments.now (wanted_in context.now (set_of set.entry))) }
-        ensures answers { let question = Inquiry.Assignments (contents_of context.now) parent.now (set_of set.entry) in
-            Answers (promised self.old question) (answered scoped result) }
-        ensures requested { let question = Inquiry.Assignments (contents_of context.now) parent.now (set_of set.entry) in
-            requests self.new ≡ requests self.old ++ requested question (answered scoped result) }
+        ensures answers { let question = Inquiry.Assignments (context_contents_of context.now) parent.now (set_of set.entry) in
+            Answers (promised self.old question) (answered answer_of_scope result) }
+        ensures requested { let question = Inquiry.Assignments (context_contents_of context.now) parent.now (set_of set.entry) in
+            requests self.new ≡ requests self.old ++ requested question (answered answer_of_scope result) }
         ensures keeps { KeepsPromises (promised self.old) (promised self.new) };
 
     /// What the parameters of a recipe come to, each by the texts of its group.
@@ -73,7 +74,7 @@ pub trait Evaluation: ConstantEvaluation {
     ) -> Result<Held<'src>, Refusal>
         requires covered { AreParametersCovered (module_of context.now) scope.now none_hidden parameters.now }
         ensures binds { IfOk result (λ bound. BindsParameters parameters.now scope.now bound.scope) }
-        ensures answers { let question = Inquiry.Parameters (contents_of context.now) scope.now groups.now is_dependency parameters.now recipe.now in
+        ensures answers { let question = Inquiry.Parameters (context_contents_of context.now) scope.now groups.now is_dependency parameters.now recipe.now in
             Answers (promised self.old question) (answered bound_to result) }
         ensures unrequested { requests self.new ≡ requests self.old }
         ensures keeps { KeepsPromises (promised self.old) (promised self.new) };

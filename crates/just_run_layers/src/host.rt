@@ -1,7 +1,7 @@
 //! The layer that runs programs, and is told what runs.
 ghost use Rattle.std.specs.Prelude.{◌≡◌, ◌++◌, List, Option};
 ghost use Rattle.just_run_layers.specs.declared.host.Entry.{Entry};
-ghost use Rattle.just_run_layers.specs.Host.{Answer, Answers, KeepsPromises, answered, done_answer, given, kept, paired, run_answer};
+ghost use Rattle.just_run_layers.specs.Host.{Answer, Answers, KeepsPromises, answered, done_answer, given, kept_call, paired, run_answer};
 
 use crate::calls::{CommandCall, ScriptCall, ShellCall};
 use crate::environment::EnvironmentPair;
@@ -65,37 +65,37 @@ pub trait Host {
 
     /// The recipe at this path begins, with these groups.
     fn begin(&mut self, path: &Modulepath, groups: &Groups) -> Result<(), AllocError>
-        ensures recorded { entries self.new ≡ entries self.old ++ kept (Entry.Begin path.now groups.now) (done_answer result) }
+        ensures recorded { entries self.new ≡ entries self.old ++ kept_call (Entry.Begin path.now groups.now) (done_answer result) }
         ensures answers { Answers (promised self.old (Entry.Begin path.now groups.now)) (done_answer result) }
         ensures keeps { KeepsPromises (promised self.old) (promised self.new) };
 
     /// A shell runs a command. The answer tells how the shell ended.
     fn shell(&mut self, call: &ShellCall) -> Result<RunAnswer, AllocError>
-        ensures recorded { entries self.new ≡ entries self.old ++ kept (Entry.Shell call.now) (run_answer result) }
+        ensures recorded { entries self.new ≡ entries self.old ++ kept_call (Entry.Shell call.now) (run_answer result) }
         ensures answers { Answers (promised self.old (Entry.Shell call.now)) (run_answer result) }
         ensures keeps { KeepsPromises (promised self.old) (promised self.new) };
 
     /// A script runs. The answer tells how it ended.
     fn script(&mut self, call: &ScriptCall) -> Result<RunAnswer, AllocError>
-        ensures recorded { entries self.new ≡ entries self.old ++ kept (Entry.Script call.now) (run_answer result) }
+        ensures recorded { entries self.new ≡ entries self.old ++ kept_call (Entry.Script call.now) (run_answer result) }
         ensures answers { Answers (promised self.old (Entry.Script call.now)) (run_answer result) }
         ensures keeps { KeepsPromises (promised self.old) (promised self.new) };
 
     /// A program runs in place of recipes. The answer tells how it ended.
     fn command(&mut self, call: &CommandCall) -> Result<RunAnswer, AllocError>
-        ensures recorded { entries self.new ≡ entries self.old ++ kept (Entry.Command call.now) (run_answer result) }
+        ensures recorded { entries self.new ≡ entries self.old ++ kept_call (Entry.Command call.now) (run_answer result) }
         ensures answers { Answers (promised self.old (Entry.Command call.now)) (run_answer result) }
         ensures keeps { KeepsPromises (promised self.old) (promised self.new) };
 
     /// A line is read after a prompt.
     fn confirm(&mut self, prompt: &Text) -> Result<Text, Refusal>
-        ensures recorded { entries self.new ≡ entries self.old ++ kept (Entry.Confirm prompt.now) (answered given result) }
+        ensures recorded { entries self.new ≡ entries self.old ++ kept_call (Entry.Confirm prompt.now) (answered given result) }
         ensures answers { Answers (promised self.old (Entry.Confirm prompt.now)) (answered given result) }
         ensures keeps { KeepsPromises (promised self.old) (promised self.new) };
 
     /// A line is shown. It is handed over without its end.
     fn show(&mut self, line: &Text) -> Result<(), AllocError>
-        ensures recorded { entries self.new ≡ entries self.old ++ kept (Entry.Show line.now) (done_answer result) }
+        ensures recorded { entries self.new ≡ entries self.old ++ kept_call (Entry.Show line.now) (done_answer result) }
         ensures answers { Answers (promised self.old (Entry.Show line.now)) (done_answer result) }
         ensures keeps { KeepsPromises (promised self.old) (promised self.new) };
 
@@ -105,13 +105,13 @@ pub trait Host {
         module_path: &Modulepath,
         working_directory: &Text,
     ) -> Result<Sequence<EnvironmentPair>, Refusal>
-        ensures recorded { entries self.new ≡ entries self.old ++ kept (Entry.Dotenv module_path.now working_directory.now) (answered paired result) }
+        ensures recorded { entries self.new ≡ entries self.old ++ kept_call (Entry.Dotenv module_path.now working_directory.now) (answered paired result) }
         ensures answers { Answers (promised self.old (Entry.Dotenv module_path.now working_directory.now)) (answered paired result) }
         ensures keeps { KeepsPromises (promised self.old) (promised self.new) };
 
     /// The time in this format.
     fn timestamp(&mut self, format: &Text) -> Result<Text, Refusal>
-        ensures recorded { entries self.new ≡ entries self.old ++ kept (Entry.Timestamp format.now) (answered given result) }
+        ensures recorded { entries self.new ≡ entries self.old ++ kept_call (Entry.Timestamp format.now) (answered given result) }
         ensures answers { Answers (promised self.old (Entry.Timestamp format.now)) (answered given result) }
         ensures keeps { KeepsPromises (promised self.old) (promised self.new) };
 }

@@ -10,7 +10,7 @@ use Rattle.just_justfile.specs.declared.justfile.Justfile.{Justfile, out-Justfil
 use Rattle.just_names.specs.Texts.{Text}
 use Rattle.just_run_layers.proofs.InteractionLemmas.{took-called, took-requested}
 use Rattle.just_run_layers.specs.Evaluation.{Assignments, ConfigContents, ContextContents, Inquiry, NumberSet, ScopeRequest, requested}
-use Rattle.just_run_layers.specs.Host.{Answer, Answers, kept}
+use Rattle.just_run_layers.specs.Host.{Answer, Answers, kept_call}
 use Rattle.just_run_layers.specs.Interactions.{Ask, Return, Log, Question, Interaction, ToEvaluator, ToHost, HasTrace, both, log_of}
 use Rattle.just_run_layers.specs.declared.environment.EnvironmentPair.{EnvironmentPair}
 use Rattle.just_run_layers.specs.declared.host.Entry.{Entry}
@@ -32,16 +32,16 @@ module _ (h : Entry → Option Answer) (config : ConfigContents) (j : Justfile) 
   asked-is : config.load_dotenv ≡ true → asked folder ≡ dotenv_steps config j before
   asked-is on = ap asked same ∙ sym (ap (λ b. cond b (asked (working_folder_of config.working_directory j)) (Return [])) on)
 
-  pub dotenv-answered : config.load_dotenv ≡ true → (a : Answer) (o : Option Answer) → o ≡ Some a → Answers (h call) o → later ≡ es ++ kept call o → (r : Result (List EnvironmentPair) Halt) → AtOnce (pairs_answered before a) r →
+  pub dotenv-answered : config.load_dotenv ≡ true → (a : Answer) (o : Option Answer) → o ≡ Some a → Answers (h call) o → later ≡ es ++ kept_call call o → (r : Result (List EnvironmentPair) Halt) → AtOnce (pairs_answered before a) r →
       AsksHostAlone h (dotenv_steps config j before) es later r
   dotenv-answered on a o is answers recorded r next = λ e rs.
       subst (λ s. HasTrace (both e h) s (log_of es rs) (log_of later rs) r) (asked-is on)
-      (took-called e h call (pairs_answered before) a rs es later (log_of later rs) r (subst (Answers (h call)) is answers) (recorded ∙ ap (λ o. es ++ kept call o) is) (next (both e h) (log_of later rs)))
+      (took-called e h call (pairs_answered before) a rs es later (log_of later rs) r (subst (Answers (h call)) is answers) (recorded ∙ ap (λ o. es ++ kept_call call o) is) (next (both e h) (log_of later rs)))
 
-  pub dotenv-unanswered : config.load_dotenv ≡ true → (o : Option Answer) → o ≡ None → later ≡ es ++ kept call o → AsksHostAlone h (dotenv_steps config j before) es later (Err Memory)
+  pub dotenv-unanswered : config.load_dotenv ≡ true → (o : Option Answer) → o ≡ None → later ≡ es ++ kept_call call o → AsksHostAlone h (dotenv_steps config j before) es later (Err Memory)
   dotenv-unanswered on o is recorded = λ e rs.
       subst (λ s. HasTrace (both e h) s (log_of es rs) (log_of later rs) (Err Memory)) (asked-is on)
-      (inl (ap (λ xs. log_of xs rs) (recorded ∙ ap (λ o. es ++ kept call o) is ∙ append-nil es), refl))
+      (inl (ap (λ xs. log_of xs rs) (recorded ∙ ap (λ o. es ++ kept_call call o) is ∙ append-nil es), refl))
 
 module _ (h : Entry → Option Answer) (config : ConfigContents) (j : Justfile) (before : List EnvironmentPair) (es : List Entry) where
   pub dotenv-off : config.load_dotenv ≡ false → (all : List EnvironmentPair) → all ≡ [] → AsksHostAlone h (dotenv_steps config j before) es es (Ok all)

@@ -15,7 +15,8 @@ use Rattle.just_tasks.specs.declared.task.Task.{Task}
 use Rattle.just_tasks.proofs.Places.{All-got}
 use Rattle.just_graph.proofs.Members.{In, contained, from_reverse}
 use Rattle.just_justfile.specs.Closed.{IsPlaced, StandsIn}
-use Rattle.just_justfile.specs.Running.{CanRun, HoldsOverridden, arguments_of, known_by_tables}
+use Rattle.just_justfile.specs.Running.{CanRun, HoldsOverridden, known_by_tables}
+use Rattle.just_recipe.specs.Recipes.{arguments_of}
 use Rattle.just_justfile.specs.declared.justfile.Justfile.{Justfile, out-Justfile}
 use Rattle.just_name_resolution.proofs.Placed.{the_value}
 use Rattle.just_name_resolution.proofs.Sets.{number_itself, or_left, or_right}

@@ -2,8 +2,9 @@
 use Rattle.std.proofs.Common.{◌≡◌, ◌∙◌, ◌&&◌, Bool, true, false, cond, List, [], ◌∷◌, Option, Some, None, IsSome, refl, sym, ap, subst, inl, inr}
 use Rattle.std.specs.List.{All}
 use Rattle.std.specs.Option.{option_map, option_or}
-use Rattle.just_tasks.specs.Homes.{AllHaveModuleScope, IsRead, Modules, arguments_of, module_scope_at}
-use Rattle.just_tasks.specs.Scene.{ModuleContents, contents_found, contents_of, running}
+use Rattle.just_tasks.specs.Homes.{AllHaveModuleScope, IsRead, Modules, module_scope_at}
+use Rattle.just_recipe.specs.Recipes.{arguments_of}
+use Rattle.just_tasks.specs.Scene.{ModuleContents, contents_found, scope_contents_of, running}
 use Rattle.just_tasks.specs.Scene as scenes
 use Rattle.just_tasks.specs.declared.scopes.ModuleScope.{ModuleScope}
 use Rattle.just_tasks.specs.declared.task.Task.{Task}
@@ -21,7 +22,7 @@ use Rattle.just_recipe.specs.declared.dependency.Dependency.{Dependency}
 use Rattle.just_recipe.specs.declared.recipe.Recipe.{Recipe}
 use Rattle.just_scopes.proofs.Under.{has_path}
 use Rattle.just_scopes.specs.Open.{AreOpenModules}
-use Rattle.just_scopes.specs.Opening.{Handed, Opened, Setup, contents_in, opened_at, opened_under, scene_of}
+use Rattle.just_scopes.specs.Opening.{Handed, Opened, Setup, opened_contents, opened_at, opened_under, scene_of}
 use Rattle.just_scopes.specs.loops.Scoped.{AreModulesOf}
 
 -- paths that are the same are equal, and equal ones are the same
@@ -57,9 +58,9 @@ module _ (path : Modulepath) where
   some-at (o ∷ os) x (inl e) t = some-or (has_path o path) o (opened_at path os) (ap (λ (y : Opened). has_path y path) (sym e) ∙ t)
   some-at (o ∷ os) x (inr i) t = some-first (opened_at path os) (cond (has_path o path) (Some o) None) (some-at os x i t)
 
-found-some : (x : Option ModuleScope) (c : ModuleContents) → contents_found x ≡ Some c → (m : ModuleScope) × (x ≡ Some m) × (contents_of m ≡ c)
+found-some : (x : Option ModuleScope) (c : ModuleContents) → contents_found x ≡ Some c → (m : ModuleScope) × (x ≡ Some m) × (scope_contents_of m ≡ c)
 found-some None c h = cc
-found-some (Some m) c h = let same : contents_of m ≡ c = cc in (m, refl, same)
+found-some (Some m) c h = let same : scope_contents_of m ≡ c = cc in (m, refl, same)
 
 first-of : (a b : Bool) → (a && b) ≡ true → a ≡ true
 first-of true b h = refl
@@ -76,7 +77,7 @@ module _ (answers : SyntaxAnswers) (root : Justfile) (recipes : List (Recipe Dep
       let path : Modulepath = (out-Justfile first.0.justfile).module_path in
       let o = the_value (opened_at path opened) (some-at path opened first.0 (is_in first.0 opened first.1) (own-path path)) in
       let there = at-path path opened o.0 o.1 in
-      let m = found-some (module_scope_at modules (Some path)) (contents_in handed o.0) (under path ∙ ap (option_map (contents_in handed)) o.1) in
+      let m = found-some (module_scope_at modules (Some path)) (opened_contents handed o.0) (under path ∙ ap (option_map (opened_contents handed)) o.1) in
       let is : r.module_path ≡ Some (out-Justfile o.0.justfile).module_path = first.2 ∙ ap (λ p. Some p) (sym there.1) in
       record {
         home = m.0;
@@ -90,7 +91,7 @@ module _ (answers : SyntaxAnswers) (root : Justfile) (recipes : List (Recipe Dep
 
 -- and the scene that they are is that of open modules
 module _ (setup : Setup) (opened : List Opened) (modules : Modules) (under : AreModulesOf setup.handed opened modules) where
-  same-under : (path : Option Modulepath) → contents_found (module_scope_at modules path) ≡ option_map (contents_in setup.handed) (opened_under path opened)
+  same-under : (path : Option Modulepath) → contents_found (module_scope_at modules path) ≡ option_map (opened_contents setup.handed) (opened_under path opened)
   same-under None = refl
   same-under (Some path) = under path
 

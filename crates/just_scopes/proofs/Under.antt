@@ -1,12 +1,12 @@
 -- The open module of a path, as modules are put in one after another.
 use Rattle.std.proofs.Common.{◌≡◌, ◌∙◌, Bool, true, false, cond, List, [], ◌∷◌, ◌++◌, Option, Some, None, refl, sym, ap}
 use Rattle.std.specs.Option.{option_map, option_or}
-use Rattle.just_tasks.specs.Scene.{contents_found, contents_of}
+use Rattle.just_tasks.specs.Scene.{contents_found, scope_contents_of}
 use Rattle.just_tasks.specs.declared.scopes.ModuleScope.{ModuleScope}
 use Rattle.just_justfile.specs.declared.justfile.Justfile.{out-Justfile}
 use Rattle.just_paths.specs.contracts.modulepath.ModulepathPartialEq.TheImpl as path_eq
 use Rattle.just_paths.specs.declared.modulepath.Modulepath.{Modulepath}
-use Rattle.just_scopes.specs.Opening.{Handed, Opened, contents_in, opened_at}
+use Rattle.just_scopes.specs.Opening.{Handed, Opened, opened_contents, opened_at}
 
 abbrev pub has_path : Opened → Modulepath → Bool
 has_path o path = path_eq.ghosts.eq (out-Justfile o.justfile).module_path path
@@ -25,12 +25,12 @@ opened-push path (x ∷ xs) o =
 pub opened-taken : (path : Modulepath) (os : List Opened) (o : Opened) (b : Bool) (found : Option Opened) → has_path o path ≡ b → found ≡ cond b (Some o) (opened_at path os) → found ≡ opened_at path (os ++ o ∷ [])
 opened-taken path os o b found is taken = taken ∙ ap (λ c. cond c (Some o) (opened_at path os)) (sym is) ∙ sym (opened-push path os o)
 
-found-by : (b : Bool) (handed : Handed) (m : ModuleScope) (o : Opened) (before : Option ModuleScope) (opened : Option Opened) → contents_of m ≡ contents_in handed o → contents_found before ≡ option_map (contents_in handed) opened →
-    contents_found (cond b (Some m) before) ≡ option_map (contents_in handed) (cond b (Some o) opened)
+found-by : (b : Bool) (handed : Handed) (m : ModuleScope) (o : Opened) (before : Option ModuleScope) (opened : Option Opened) → scope_contents_of m ≡ opened_contents handed o → contents_found before ≡ option_map (opened_contents handed) opened →
+    contents_found (cond b (Some m) before) ≡ option_map (opened_contents handed) (cond b (Some o) opened)
 found-by true handed m o before opened own rest = ap (λ c. Some c) own
 found-by false handed m o before opened own rest = rest
 
-pub put-found : (handed : Handed) (m : ModuleScope) (o : Opened) (os : List Opened) (path : Modulepath) (before after : Option ModuleScope) → contents_of m ≡ contents_in handed o → contents_found before ≡ option_map (contents_in handed) (opened_at path os) →
-    after ≡ cond (has_path o path) (Some m) before → contents_found after ≡ option_map (contents_in handed) (opened_at path (os ++ o ∷ []))
+pub put-found : (handed : Handed) (m : ModuleScope) (o : Opened) (os : List Opened) (path : Modulepath) (before after : Option ModuleScope) → scope_contents_of m ≡ opened_contents handed o → contents_found before ≡ option_map (opened_contents handed) (opened_at path os) →
+    after ≡ cond (has_path o path) (Some m) before → contents_found after ≡ option_map (opened_contents handed) (opened_at path (os ++ o ∷ []))
 put-found handed m o os path before after own rest put =
-    ap contents_found put ∙ found-by (has_path o path) handed m o before (opened_at path os) own rest ∙ ap (option_map (contents_in handed)) (sym (opened-push path os o))
+    ap contents_found put ∙ found-by (has_path o path) handed m o before (opened_at path os) own rest ∙ ap (option_map (opened_contents handed)) (sym (opened-push path os o))

@@ -16,7 +16,7 @@ use Rattle.just_graph.proofs.Members.{In, all_in, contained, from_map, in_cases,
 use Rattle.just_name_resolution.proofs.Sets.{number_itself, one_number, or_left, or_right}
 use Rattle.just_names.specs.declared.number.Number.{Number}
 use Rattle.just_parts.specs.Needs.{same_number}
-use Rattle.just_recipe.specs.Recipes.{IsOrdered}
+use Rattle.just_recipe.specs.Recipes.{DependenciesStandFirst}
 use Rattle.just_recipe.specs.declared.dependency.Dependency.{Dependency}
 use Rattle.just_recipe.specs.declared.recipe.Recipe.{Recipe}
 use Rattle.just_recipes.specs.Places.{place_of}
@@ -115,7 +115,7 @@ got-at [] k h = absurd (omega arith)
 got-at (r ∷ rs) zero h = (r, refl)
 got-at (r ∷ rs) (suc k) h = got-at rs k (omega arith)
 
-module _ (recipes : List (Recipe Dependency)) (ordered : IsOrdered recipes) (rows : List (Vec ℕ Global)) (are : EachRow (λ place row. row ≡ needed_places recipes place) (length recipes) rows) where
+module _ (recipes : List (Recipe Dependency)) (ordered : DependenciesStandFirst recipes) (rows : List (Vec ℕ Global)) (are : EachRow (λ place row. row ≡ needed_places recipes place) (length recipes) rows) where
   same-row : (a : ℕ) → targets rows a ≡ needed_places recipes a
   same-row a = elim (cases_lt a (length recipes)) [
     | inl l ↦ are.rows a l

@@ -6,7 +6,8 @@ use Rattle.just_tasks.specs.Homes.{IsRead}
 use Rattle.just_tasks.specs.Leading.{LeadTo}
 use Rattle.just_tasks.specs.declared.task.Task.{Task}
 use Rattle.just_justfile.specs.Closed.{StandsIn}
-use Rattle.just_justfile.specs.Running.{arguments_of, known_by_tables}
+use Rattle.just_justfile.specs.Running.{known_by_tables}
+use Rattle.just_recipe.specs.Recipes.{arguments_of}
 use Rattle.just_justfile.specs.declared.justfile.Justfile.{Justfile, out-Justfile}
 use Rattle.just_names.specs.Texts.{Text}
 use Rattle.just_names.specs.declared.number.Number.{Number}

@@ -120,8 +120,8 @@ abbrev pub all_opened : NumberSets → Handed → List Placed → Interaction (L
 all_opened sets handed ps = openings sets handed ps []
 
 -- what recipes run by in an open module
-abbrev pub contents_in : Handed → Opened → ModuleContents
-contents_in handed o = record { context = context_in handed o.justfile o.dotenv; scope = o.scope }
+abbrev pub opened_contents : Handed → Opened → ModuleContents
+opened_contents handed o = record { context = context_in handed o.justfile o.dotenv; scope = o.scope }
 
 -- the open module of a path: the last of them
 abbrev pub opened_at : Modulepath → List Opened → Option Opened
@@ -149,7 +149,7 @@ abbrev pub scene_of : Setup → List (Recipe Dependency) → List Opened → Sce
 scene_of setup recipes opened = record {
   syntax = setup.syntax;
   recipes = running setup.handed.config.no_dependencies recipes;
-  modules = λ path. option_map (contents_in setup.handed) (opened_under path opened);
+  modules = λ path. option_map (opened_contents setup.handed) (opened_under path opened);
 }
 
 -- for the private functions: an open module as data

@@ -1,6 +1,6 @@
 //! What a module hands to the layers.
 ghost use Rattle.std.specs.Prelude.{◌≡◌};
-ghost use Rattle.just_run_layers.specs.Evaluation.{contents_of};
+ghost use Rattle.just_run_layers.specs.Evaluation.{context_contents_of};
 ghost use Rattle.just_scopes.specs.Opening.{context_in, handed_of};
 
 use just_data::{Chain, Text};
@@ -16,7 +16,7 @@ pub(crate) fn context_of<'run, 'src>(
     justfile: &'run Justfile<'src>,
     dotenv: Chain<EnvironmentPair>,
 ) -> Context<'run, 'src>
-    ensures { contents_of result ≡ context_in (handed_of config.now overrides.now) justfile.now dotenv }
+    ensures { context_contents_of result ≡ context_in (handed_of config.now overrides.now) justfile.now dotenv }
 {
     Context {
         config,

@@ -38,19 +38,19 @@ show_all_steps [] = Return tt
 show_all_steps (text ∷ texts) = and_then (show_steps text) (λ _. show_all_steps texts)
 
 abbrev pub show_if_steps : Bool → List Text → Interaction (Unit {0})
-show_if_steps is_shown texts = cond is_shown (show_all_steps texts) (Return tt)
+show_if_steps is_script_shown texts = cond is_script_shown (show_all_steps texts) (Return tt)
 
 -- the script is shown before anything runs, and as it is handed over
-abbrev pub is_shown : BodyContents → Bool
-is_shown b = not (is_mute b.context.config.verbosity) && (b.context.config.dry_run || b.recipe.quiet)
+abbrev pub is_script_shown : BodyContents → Bool
+is_script_shown b = not (is_mute b.context.config.verbosity) && (b.context.config.dry_run || b.recipe.quiet)
 
 abbrev pub is_grandiloquent : Verbosity → Bool
 is_grandiloquent verbosity.Grandiloquent = true
 is_grandiloquent _ = false
 
 -- what the host is handed
-abbrev pub positional_of : BodyContents → Option (List Text)
-positional_of b = cond (takes_positional_arguments b.recipe b.context.settings) (Some b.positional) None
+abbrev pub script_positional : BodyContents → Option (List Text)
+script_positional b = cond (takes_positional_arguments b.recipe b.context.settings) (Some b.positional) None
 
 abbrev pub script_call : BodyContents → Executor → List Text → Option Text → List EnvironmentChange → ScriptCall
 script_call b executor texts directory changes = record {
@@ -59,29 +59,29 @@ script_call b executor texts directory changes = record {
   lines = texts;
   extension = extension_of b.recipe.attributes;
   working_directory = directory;
-  positional = positional_of b;
+  positional = script_positional b;
   environment = with_pairs changes b.environment;
 }
 
 -- what errors tell: no line
-abbrev pub teller_of : BodyContents → Teller
-teller_of b = record { recipe = body_name b; line_number = None; print_message = prints_message b.recipe b.context.settings }
+abbrev pub script_teller : BodyContents → Teller
+script_teller b = record { recipe = body_name b; line_number = None; print_message = prints_message b.recipe b.context.settings }
 
 -- what the answer comes to; an answer of another kind does not come up
 abbrev pub script_answered : BodyContents → Answer → Interaction (Unit {0})
-script_answered b (Ran answer) = and_then (concluded (judged program.Script (teller_of b) (continues_on b.recipe) no_marks answer)) (λ next. Return tt)
+script_answered b (Ran answer) = and_then (concluded (judged program.Script (script_teller b) (continues_on b.recipe) no_marks answer)) (λ next. Return tt)
 script_answered b _ = Fail Memory
 
 abbrev pub script_call_steps : BodyContents → ScriptCall → Interaction (Unit {0})
 script_call_steps b call = Ask (ToHost (Script call)) (script_answered b)
 
 -- the script runs: the environment is asked for just before
-abbrev pub call_steps : BodyContents → Executor → List Text → Option Text → Interaction (Unit {0})
-call_steps b executor texts directory = and_then (environment_steps b) (λ changes. script_call_steps b (script_call b executor texts directory changes))
+abbrev pub call_script_steps : BodyContents → Executor → List Text → Option Text → Interaction (Unit {0})
+call_script_steps b executor texts directory = and_then (environment_steps b) (λ changes. script_call_steps b (script_call b executor texts directory changes))
 
 abbrev pub shown_call_steps : BodyContents → Executor → List Text → Option Text → Interaction (Unit {0})
 shown_call_steps b executor texts directory =
-    and_then (show_if_steps (is_grandiloquent b.context.config.verbosity) texts) (λ _. call_steps b executor texts directory)
+    and_then (show_if_steps (is_grandiloquent b.context.config.verbosity) texts) (λ _. call_script_steps b executor texts directory)
 
 -- what runs it, and then the working directory
 abbrev pub executed_steps : BodyContents → List Text → Executor → Interaction (Unit {0})
@@ -91,11 +91,11 @@ abbrev pub script_run_steps : BodyContents → List Text → Interaction (Unit {
 script_run_steps b texts = and_then (concluded (executor_of b texts)) (executed_steps b texts)
 
 -- nothing runs in a dry run
-abbrev pub unless_dry_steps : BodyContents → List Text → Interaction (Unit {0})
-unless_dry_steps b texts = cond b.context.config.dry_run (Return tt) (script_run_steps b texts)
+abbrev pub script_unless_dry_steps : BodyContents → List Text → Interaction (Unit {0})
+script_unless_dry_steps b texts = cond b.context.config.dry_run (Return tt) (script_run_steps b texts)
 
 abbrev pub shown_steps : BodyContents → List Text → Interaction (Unit {0})
-shown_steps b texts = and_then (show_if_steps (is_shown b) texts) (λ _. unless_dry_steps b texts)
+shown_steps b texts = and_then (show_if_steps (is_script_shown b) texts) (λ _. script_unless_dry_steps b texts)
 
 -- A script body: the time with the name of the recipe, all its lines, and then the script.
 abbrev pub script_steps : BodyContents → Interaction (Unit {0})

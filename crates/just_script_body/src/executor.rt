@@ -1,7 +1,7 @@
 //! What runs a script.
 ghost use Rattle.std.specs.Prelude.{◌≡◌, IfOk, map};
 ghost use Rattle.std.specs.Option.{option_copied};
-ghost use Rattle.just_recipe_body.specs.Body.{contents_of};
+ghost use Rattle.just_recipe_body.specs.Body.{body_contents_of};
 ghost use Rattle.just_script_body.specs.Executors as spec;
 ghost use Rattle.just_script_body.specs.loops.Executors.{IsOrMemory};
 
@@ -56,7 +56,7 @@ fn set_interpreter<'a, 'run, 'src, S: Syntax>(
     alloc: Global,
     body: &Body<'a, 'run, 'src, S>,
 ) -> Result<Interpreter<Text>, AllocError>
-    ensures { let contents = contents_of (S.answers body.now.syntax.now) body.now in
+    ensures { let contents = body_contents_of (S.answers body.now.syntax.now) body.now in
         IfOk result (λ interpreter. interpreter ≡ spec.set_interpreter contents) }
 {
     match &body.context.settings.script_interpreter {
@@ -71,7 +71,7 @@ fn said_interpreter<'a, 'run, 'src, S: Syntax>(
     body: &Body<'a, 'run, 'src, S>,
     said: &Option<Interpreter<StringLiteral<'src>>>,
 ) -> Result<Interpreter<Text>, AllocError>
-    ensures { let contents = contents_of (S.answers body.now.syntax.now) body.now in
+    ensures { let contents = body_contents_of (S.answers body.now.syntax.now) body.now in
         IfOk result (λ interpreter. interpreter ≡ spec.said_interpreter contents said.now) }
 {
     match said {
@@ -120,7 +120,7 @@ fn named_by<'a, 'run, 'src, S: Syntax>(
     body: &Body<'a, 'run, 'src, S>,
     text: &Text,
 ) -> Result<Executor, Halt<'src>>
-    ensures { let contents = contents_of (S.answers body.now.syntax.now) body.now in
+    ensures { let contents = body_contents_of (S.answers body.now.syntax.now) body.now in
         IsOrMemory (spec.named_in_shebang contents text.now (contents.syntax.shebang text.now)) result }
 {
     match body.syntax.shebang(text.as_str()) {
@@ -153,7 +153,7 @@ fn executor_by<'a, 'run, 'src, S: Syntax>(
     body: &Body<'a, 'run, 'src, S>,
     text: Option<&Text>,
 ) -> Result<Executor, Halt<'src>>
-    ensures { let contents = contents_of (S.answers body.now.syntax.now) body.now in
+    ensures { let contents = body_contents_of (S.answers body.now.syntax.now) body.now in
         IsOrMemory (spec.executor_by contents (option_copied text.entry)) result }
 {
     match text {
@@ -168,7 +168,7 @@ pub fn executor_of<'a, 'run, 'src, S: Syntax>(
     body: &Body<'a, 'run, 'src, S>,
     texts: &Sequence<Text>,
 ) -> Result<Executor, Halt<'src>>
-    ensures { let contents = contents_of (S.answers body.now.syntax.now) body.now in
+    ensures { let contents = body_contents_of (S.answers body.now.syntax.now) body.now in
         IsOrMemory (spec.executor_of contents texts.now) result }
 {
     match script_of(body.recipe.attributes.as_slice()) {

@@ -3,7 +3,7 @@ ghost use Rattle.std.specs.Prelude.{◌≡◌};
 ghost use Rattle.std.specs.List.{All};
 ghost use Rattle.just_run_layers.specs.Covering.{module_of};
 ghost use Rattle.just_run_layers.specs.Host.{KeepsPromises};
-ghost use Rattle.just_recipe_body.specs.Body.{contents_of, show_steps};
+ghost use Rattle.just_recipe_body.specs.Body.{body_contents_of, show_steps};
 ghost use Rattle.just_recipe_body.specs.Covering.{IsLineCovered};
 ghost use Rattle.just_recipe_body.specs.Taking.{AsksEvaluator, AsksHost};
 ghost use Rattle.just_script_body.specs.ScriptBody as spec;
@@ -25,7 +25,7 @@ pub fn ask_texts<'a, 'run, 'src, S: Syntax, E: Evaluation>(
 ) -> Result<Sequence<Text>, Halt<'src>>
     requires covered { All (IsLineCovered (module_of body.now.context.now) body.now.scope.now) lines.now }
     ensures keeps { KeepsPromises (E.promised evaluation.old) (E.promised evaluation.new) }
-    ensures took { let steps = spec.texts_steps (contents_of (S.answers body.now.syntax.now) body.now) lines.now in
+    ensures took { let steps = spec.texts_steps (body_contents_of (S.answers body.now.syntax.now) body.now) lines.now in
         AsksEvaluator (E.promised evaluation.old) steps (E.requests evaluation.old) (E.requests evaluation.new) result }
 {
     let mut texts = Sequence::new(alloc);

@@ -5,7 +5,7 @@ ghost use Rattle.just_parts.specs.Scopes.{attribute_expressions, in_attributes};
 ghost use Rattle.just_run_layers.specs.Covering.{IsCovered, module_of};
 ghost use Rattle.just_run_layers.specs.Host.{KeepsPromises};
 ghost use Rattle.just_run_layers.specs.Interactions.{HasTrace, both, log_of};
-ghost use Rattle.just_recipe_body.specs.Body.{contents_of};
+ghost use Rattle.just_recipe_body.specs.Body.{body_contents_of};
 ghost use Rattle.just_recipe_body.specs.Covering.{IsLineCovered};
 ghost use Rattle.just_recipe_body.specs.Taking.{AsksHost};
 ghost use Rattle.just_script_body.specs.ScriptAttributes as said;
@@ -34,7 +34,7 @@ fn show_time<'a, 'run, 'src, S: Syntax, H: Host>(
     host: &mut H,
 ) -> Result<(), Halt<'src>>
     ensures keeps { KeepsPromises (H.promised host.old) (H.promised host.new) }
-    ensures took { let steps = spec.show_time_steps (contents_of (S.answers body.now.syntax.now) body.now) time.now in
+    ensures took { let steps = spec.show_time_steps (body_contents_of (S.answers body.now.syntax.now) body.now) time.now in
         AsksHost (H.promised host.old) steps (H.entries host.old) (H.entries host.new) result }
 {
     match time {
@@ -58,7 +58,7 @@ fn begin<'a, 'run, 'src, S: Syntax, E: Evaluation, H: Host>(
     ensures keeps_host { KeepsPromises (H.promised host.old) (H.promised host.new) }
     ensures took { let first = log_of (H.entries host.old) (E.requests evaluation.old) in
         let last = log_of (H.entries host.new) (E.requests evaluation.new) in
-        let steps = spec.heading_steps (contents_of (S.answers body.now.syntax.now) body.now) in
+        let steps = spec.heading_steps (body_contents_of (S.answers body.now.syntax.now) body.now) in
         HasTrace (both (E.promised evaluation.old) (H.promised host.old)) steps first last result }
 {
     let format = ask_format(alloc, body, evaluation)?;
@@ -68,7 +68,7 @@ fn begin<'a, 'run, 'src, S: Syntax, E: Evaluation, H: Host>(
 
 // Whether the script is shown before anything runs.
 fn is_shown<'a, 'run, 'src, S: Syntax>(body: &Body<'a, 'run, 'src, S>) -> bool
-    ensures { result ≡ spec.is_shown (contents_of (S.answers body.now.syntax.now) body.now) }
+    ensures { result ≡ spec.is_script_shown (body_contents_of (S.answers body.now.syntax.now) body.now) }
 {
     !is_mute(body.context.config.verbosity) && (body.context.config.dry_run || body.recipe.quiet)
 }
@@ -84,7 +84,7 @@ fn is_grandiloquent(verbosity: Verbosity) -> bool
 fn positional_of<'a, 'run, 'src, S: Syntax>(
     body: &Body<'a, 'run, 'src, S>,
 ) -> Result<Option<Sequence<Text>>, AllocError>
-    ensures { IfOk result (λ texts. texts ≡ spec.positional_of (contents_of (S.answers body.now.syntax.now) body.now)) }
+    ensures { IfOk result (λ texts. texts ≡ spec.script_positional (body_contents_of (S.answers body.now.syntax.now) body.now)) }
 {
     if !takes_positional_arguments(body.recipe, body.context.settings) {
         return Ok(None);
@@ -111,7 +111,7 @@ fn script_call<'a, 'run, 'src, S: Syntax>(
     working_directory: Option<Text>,
     changes: Sequence<EnvironmentChange>,
 ) -> Result<ScriptCall, AllocError>
-    ensures { let contents = contents_of (S.answers body.now.syntax.now) body.now in
+    ensures { let contents = body_contents_of (S.answers body.now.syntax.now) body.now in
         IfOk result (λ call. call ≡ spec.script_call contents executor texts working_directory changes) }
 {
     Ok(ScriptCall {
@@ -127,7 +127,7 @@ fn script_call<'a, 'run, 'src, S: Syntax>(
 
 // What errors tell of the script.
 fn teller_of<'a, 'run, 'src, S: Syntax>(body: &Body<'a, 'run, 'src, S>) -> Teller<'src>
-    ensures { result ≡ spec.teller_of (contents_of (S.answers body.now.syntax.now) body.now) }
+    ensures { result ≡ spec.script_teller (body_contents_of (S.answers body.now.syntax.now) body.now) }
 {
     Teller {
         recipe: BorrowedText::new(body.recipe.name.lexeme()),
@@ -150,7 +150,7 @@ fn call_script<'a, 'run, 'src, S: Syntax, H: Host>(
     host: &mut H,
 ) -> Result<(), Halt<'src>>
     ensures keeps { KeepsPromises (H.promised host.old) (H.promised host.new) }
-    ensures took { let steps = spec.script_call_steps (contents_of (S.answers body.now.syntax.now) body.now) call.now in
+    ensures took { let steps = spec.script_call_steps (body_contents_of (S.answers body.now.syntax.now) body.now) call.now in
         AsksHost (H.promised host.old) steps (H.entries host.old) (H.entries host.new) result }
 {
     let answer = host.script(call)?;
@@ -175,7 +175,7 @@ fn run_call<'a, 'run, 'src, S: Syntax, E: Evaluation, H: Host>(
     ensures keeps_host { KeepsPromises (H.promised host.old) (H.promised host.new) }
     ensures took { let first = log_of (H.entries host.old) (E.requests evaluation.old) in
         let last = log_of (H.entries host.new) (E.requests evaluation.new) in
-        let steps = spec.call_steps (contents_of (S.answers body.now.syntax.now) body.now) executor texts working_directory in
+        let steps = spec.call_script_steps (body_contents_of (S.answers body.now.syntax.now) body.now) executor texts working_directory in
         HasTrace (both (E.promised evaluation.old) (H.promised host.old)) steps first last result }
 {
     let changes = ask_changes(alloc, body, evaluation)?;
@@ -196,7 +196,7 @@ fn run_texts<'a, 'run, 'src, S: Syntax, E: Evaluation, H: Host>(
     ensures keeps_host { KeepsPromises (H.promised host.old) (H.promised host.new) }
     ensures took { let first = log_of (H.entries host.old) (E.requests evaluation.old) in
         let last = log_of (H.entries host.new) (E.requests evaluation.new) in
-        let steps = spec.script_run_steps (contents_of (S.answers body.now.syntax.now) body.now) texts in
+        let steps = spec.script_run_steps (body_contents_of (S.answers body.now.syntax.now) body.now) texts in
         HasTrace (both (E.promised evaluation.old) (H.promised host.old)) steps first last result }
 {
     let executor = executor_of(alloc, body, &texts)?;
@@ -230,7 +230,7 @@ fn run_unless_dry<'a, 'run, 'src, S: Syntax, E: Evaluation, H: Host>(
     ensures keeps_host { KeepsPromises (H.promised host.old) (H.promised host.new) }
     ensures took { let first = log_of (H.entries host.old) (E.requests evaluation.old) in
         let last = log_of (H.entries host.new) (E.requests evaluation.new) in
-        let steps = spec.unless_dry_steps (contents_of (S.answers body.now.syntax.now) body.now) texts in
+        let steps = spec.script_unless_dry_steps (body_contents_of (S.answers body.now.syntax.now) body.now) texts in
         HasTrace (both (E.promised evaluation.old) (H.promised host.old)) steps first last result }
 {
     if body.context.config.dry_run {
@@ -254,7 +254,7 @@ pub fn run_script<'a, 'run, 'src, S: Syntax, E: Evaluation, H: Host>(
     ensures keeps_host { KeepsPromises (H.promised host.old) (H.promised host.new) }
     ensures took { let first = log_of (H.entries host.old) (E.requests evaluation.old) in
         let last = log_of (H.entries host.new) (E.requests evaluation.new) in
-        let steps = spec.script_steps (contents_of (S.answers body.now.syntax.now) body.now) in
+        let steps = spec.script_steps (body_contents_of (S.answers body.now.syntax.now) body.now) in
         HasTrace (both (E.promised evaluation.old) (H.promised host.old)) steps first last result }
 {
     begin(alloc, body, evaluation, host)?;

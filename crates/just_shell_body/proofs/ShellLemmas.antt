@@ -13,7 +13,7 @@ use Rattle.just_run_layers.specs.LineTexts.{BeginsPlain}
 use Rattle.just_run_layers.specs.Evaluation.{Inquiry, ScopeRequest}
 use Rattle.just_run_layers.specs.declared.host.Entry.{Entry}
 use Rattle.just_run_layers.specs.declared.host.Entry.TheVariants.{Show}
-use Rattle.just_run_layers.specs.Host.{Answer, Answers, Done, kept}
+use Rattle.just_run_layers.specs.Host.{Answer, Answers, Done, kept_call}
 use Rattle.just_run_layers.specs.Interactions.{Return, Log, Question, Interaction, HasTrace, and_then, both, log_of}
 use Rattle.just_run_layers.proofs.InteractionLemmas.{took-called, took-give}
 use Rattle.just_recipe_body.specs.Body.{BodyContents, show_steps}
@@ -69,7 +69,7 @@ module _ (p : Question → Option Answer) (b : BodyContents) where
   no-groups prep [] old h = took-give p old tt
   no-groups prep (l ∷ ls) old h = absurd (omega (arith, h))
 
-pub is-told : (e : Inquiry → Option Answer) (h : Entry → Option Answer) (text : Text) (requests : List ScopeRequest) (old new : List Entry) → Answers (h (Show text)) (Some Done) → new ≡ old ++ kept (Show text) (Some Done) →
+pub is-told : (e : Inquiry → Option Answer) (h : Entry → Option Answer) (text : Text) (requests : List ScopeRequest) (old new : List Entry) → Answers (h (Show text)) (Some Done) → new ≡ old ++ kept_call (Show text) (Some Done) →
     HasTrace (both e h) (show_steps text) (log_of old requests) (log_of new requests) (Ok tt)
 is-told e h text requests old new a n = took-called e h (Show text) (λ answer. Return tt) Done requests old new (log_of new requests) (Ok tt) a n (took-give (both e h) (log_of new requests) tt)
 

@@ -13,7 +13,7 @@ use Rattle.just_run_layers.specs.declared.host.Entry.TheVariants.{Shell}
 use Rattle.just_run_layers.specs.Host.{Answer, Ran}
 use Rattle.just_run_layers.specs.Interactions.{Ask, Fail, Return, Interaction, ToHost, and_then}
 use Rattle.just_recipe_body.specs.Attributes.{continues_on, is_no_quiet, prints_message, takes_positional_arguments}
-use Rattle.just_recipe_body.specs.Body.{BodyContents, environment_steps, concluded, is_loquacious, is_mute, body_name, prepare_steps, show_steps, stamped, time_steps, with_pairs}
+use Rattle.just_recipe_body.specs.Body.{BodyContents, environment_steps, concluded, is_loquacious, is_mute, body_name, body_prepare_steps, show_steps, stamped, time_steps, with_pairs}
 use Rattle.just_recipe_body.specs.Judging.{judged}
 use Rattle.just_shell_body.specs.Lines.{group_command_steps, groups}
 use Rattle.just_recipe_body.specs.declared.body.Preparation.{Preparation}
@@ -116,4 +116,4 @@ abbrev pub lines_steps : BodyContents → Preparation → List Line → Interact
 lines_steps b prepared lines = groups_steps b prepared (groups b.syntax b.context.settings lines)
 
 abbrev pub shell_steps : BodyContents → Interaction (Unit {0})
-shell_steps b = and_then (prepare_steps b) (λ prepared. lines_steps b prepared b.recipe.body)
+shell_steps b = and_then (body_prepare_steps b) (λ prepared. lines_steps b prepared b.recipe.body)

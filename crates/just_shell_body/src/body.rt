@@ -6,7 +6,7 @@ ghost use Rattle.just_run_layers.specs.Covering.{IsCovered, module_of};
 ghost use Rattle.just_run_layers.specs.Host.{KeepsPromises};
 ghost use Rattle.just_run_layers.specs.LineTexts.{AgreesWith};
 ghost use Rattle.just_run_layers.specs.Interactions.{HasTrace, both, log_of};
-ghost use Rattle.just_recipe_body.specs.Body.{contents_of};
+ghost use Rattle.just_recipe_body.specs.Body.{body_contents_of};
 ghost use Rattle.just_shell_body.specs.Lines.{AreGroupsCovered, groups};
 ghost use Rattle.just_shell_body.specs.ShellBody as spec;
 
@@ -53,7 +53,7 @@ fn run_groups<'a, 'run, 'src, S: Syntax, E: Evaluation, H: Host>(
     ensures keeps_host { KeepsPromises (H.promised host.old) (H.promised host.new) }
     ensures took { let first = log_of (H.entries host.old) (E.requests evaluation.old) in
         let last = log_of (H.entries host.new) (E.requests evaluation.new) in
-        let steps = spec.lines_steps (contents_of (S.answers body.now.syntax.now) body.now) preparation.now lines.now in
+        let steps = spec.lines_steps (body_contents_of (S.answers body.now.syntax.now) body.now) preparation.now lines.now in
         HasTrace (both (E.promised evaluation.old) (H.promised host.old)) steps first last result }
 {
     let mut at = 0;
@@ -84,7 +84,7 @@ pub fn run_shell<'a, 'run, 'src, S: Syntax, E: Evaluation, H: Host>(
     ensures keeps_host { KeepsPromises (H.promised host.old) (H.promised host.new) }
     ensures took { let first = log_of (H.entries host.old) (E.requests evaluation.old) in
         let last = log_of (H.entries host.new) (E.requests evaluation.new) in
-        let steps = spec.shell_steps (contents_of (S.answers body.now.syntax.now) body.now) in
+        let steps = spec.shell_steps (body_contents_of (S.answers body.now.syntax.now) body.now) in
         HasTrace (both (E.promised evaluation.old) (H.promised host.old)) steps first last result }
 {
     let preparation = prepare(alloc, body, evaluation)?;

@@ -5,7 +5,7 @@ ghost use Rattle.just_parts.specs.Groups.{ends_group};
 ghost use Rattle.just_run_layers.specs.Covering.{module_of};
 ghost use Rattle.just_run_layers.specs.Host.{KeepsPromises};
 ghost use Rattle.just_run_layers.specs.LineTexts.{AgreesWith, BeginsPlain, EndsWithBackslash};
-ghost use Rattle.just_recipe_body.specs.Body.{contents_of};
+ghost use Rattle.just_recipe_body.specs.Body.{body_contents_of};
 ghost use Rattle.just_recipe_body.specs.Covering.{IsLineCovered};
 ghost use Rattle.just_shell_body.specs.Lines as spec;
 ghost use Rattle.just_shell_body.specs.Lines.{IsGroupCovered};
@@ -82,7 +82,7 @@ fn ask_text<'a, 'run, 'src, S: Syntax, E: Evaluation>(
     requires covered { All (IsLineCovered (module_of body.now.context.now) body.now.scope.now) lines.now }
     ensures begins { IfOk result (TextBeginsGroup (S.answers body.now.syntax.now) body.now.context.now.settings.now lines.now) }
     ensures keeps { KeepsPromises (E.promised evaluation.old) (E.promised evaluation.new) }
-    ensures took { let steps = spec.lines_text_steps (contents_of (S.answers body.now.syntax.now) body.now) false [] lines.now in
+    ensures took { let steps = spec.lines_text_steps (body_contents_of (S.answers body.now.syntax.now) body.now) false [] lines.now in
         AsksEvaluator (E.promised evaluation.old) steps (E.requests evaluation.old) (E.requests evaluation.new) result }
 {
     let mut text = String::new(alloc);
@@ -139,7 +139,7 @@ pub fn ask_command<'a, 'run, 'src, S: Syntax, E: Evaluation>(
     requires covered { let covered = IsGroupCovered (S.answers body.now.syntax.now) body.now.context.now.settings.now in
         covered (module_of body.now.context.now) body.now.scope.now lines.now }
     ensures keeps { KeepsPromises (E.promised evaluation.old) (E.promised evaluation.new) }
-    ensures took { let steps = spec.group_command_steps (contents_of (S.answers body.now.syntax.now) body.now) lines.now in
+    ensures took { let steps = spec.group_command_steps (body_contents_of (S.answers body.now.syntax.now) body.now) lines.now in
         AsksEvaluator (E.promised evaluation.old) steps (E.requests evaluation.old) (E.requests evaluation.new) result }
 {
     let Some((first, rest)) = lines.split_first() else {

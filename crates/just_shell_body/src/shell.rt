@@ -4,7 +4,7 @@ ghost use Rattle.just_run_layers.specs.Covering.{module_of};
 ghost use Rattle.just_run_layers.specs.Host.{KeepsPromises};
 ghost use Rattle.just_run_layers.specs.LineTexts.{AgreesWith};
 ghost use Rattle.just_run_layers.specs.Interactions.{HasTrace, both, log_of};
-ghost use Rattle.just_recipe_body.specs.Body.{contents_of};
+ghost use Rattle.just_recipe_body.specs.Body.{body_contents_of};
 ghost use Rattle.just_shell_body.specs.Lines.{IsGroupCovered};
 ghost use Rattle.just_shell_body.specs.ShellBody as spec;
 ghost use Rattle.just_recipe_body.specs.Taking.{AsksHost};
@@ -32,7 +32,7 @@ fn differs(first: bool, second: bool) -> bool
 
 // Whether a line is muted.
 fn is_muted<'a, 'run, 'src, S: Syntax>(body: &Body<'a, 'run, 'src, S>, marks: Marks) -> bool
-    ensures { result ≡ spec.is_muted (contents_of (S.answers body.now.syntax.now) body.now) marks }
+    ensures { result ≡ spec.is_muted (body_contents_of (S.answers body.now.syntax.now) body.now) marks }
 {
     differs(marks.quiet, body.recipe.quiet)
         || (body.context.settings.quiet && !has_no_quiet(body.recipe.attributes.as_slice()))
@@ -45,7 +45,7 @@ fn is_shown<'a, 'run, 'src, S: Syntax>(
     marks: Marks,
     time: &Option<Text>,
 ) -> bool
-    ensures { result ≡ spec.is_shown (contents_of (S.answers body.now.syntax.now) body.now) marks time.now }
+    ensures { result ≡ spec.is_shown (body_contents_of (S.answers body.now.syntax.now) body.now) marks time.now }
 {
     body.context.config.dry_run
         || is_loquacious(body.context.config.verbosity)
@@ -72,7 +72,7 @@ fn show_command<'a, 'run, 'src, S: Syntax, H: Host>(
     host: &mut H,
 ) -> Result<(), Halt<'src>>
     ensures keeps { KeepsPromises (H.promised host.old) (H.promised host.new) }
-    ensures took { let steps = spec.show_command_steps (contents_of (S.answers body.now.syntax.now) body.now) command.now time.now in
+    ensures took { let steps = spec.show_command_steps (body_contents_of (S.answers body.now.syntax.now) body.now) command.now time.now in
         AsksHost (H.promised host.old) steps (H.entries host.old) (H.entries host.new) result }
 {
     if !is_shown(body, command.marks, time) {
@@ -100,7 +100,7 @@ fn shell_of<'a, 'run, 'src, S: Syntax>(
     alloc: Global,
     body: &Body<'a, 'run, 'src, S>,
 ) -> Result<Interpreter<Text>, AllocError>
-    ensures { IfOk result (λ shell. shell ≡ spec.shell_of (contents_of (S.answers body.now.syntax.now) body.now)) }
+    ensures { IfOk result (λ shell. shell ≡ spec.shell_of (body_contents_of (S.answers body.now.syntax.now) body.now)) }
 {
     match &body.context.settings.shell {
         Some(shell) => shell.clone(),
@@ -113,7 +113,7 @@ fn positional_of<'a, 'run, 'src, S: Syntax>(
     alloc: Global,
     body: &Body<'a, 'run, 'src, S>,
 ) -> Result<Option<Positional>, AllocError>
-    ensures { IfOk result (λ positional. positional ≡ spec.positional_of (contents_of (S.answers body.now.syntax.now) body.now)) }
+    ensures { IfOk result (λ positional. positional ≡ spec.positional_of (body_contents_of (S.answers body.now.syntax.now) body.now)) }
 {
     if !takes_positional_arguments(body.recipe, body.context.settings) {
         return Ok(None);
@@ -132,7 +132,7 @@ fn shell_call<'a, 'run, 'src, S: Syntax>(
     command: &Text,
     changes: Sequence<EnvironmentChange>,
 ) -> Result<ShellCall, AllocError>
-    ensures { let contents = contents_of (S.answers body.now.syntax.now) body.now in
+    ensures { let contents = body_contents_of (S.answers body.now.syntax.now) body.now in
         IfOk result (λ call. call ≡ spec.shell_call contents working_directory.now command.now changes) }
 {
     Ok(ShellCall {
@@ -150,7 +150,7 @@ fn teller_of<'a, 'run, 'src, S: Syntax>(
     body: &Body<'a, 'run, 'src, S>,
     command: &GroupCommand,
 ) -> Teller<'src>
-    ensures { result ≡ spec.teller_of (contents_of (S.answers body.now.syntax.now) body.now) command.now }
+    ensures { result ≡ spec.teller_of (body_contents_of (S.answers body.now.syntax.now) body.now) command.now }
 {
     Teller {
         recipe: BorrowedText::new(body.recipe.name.lexeme()),
@@ -167,7 +167,7 @@ fn call_shell<'a, 'run, 'src, S: Syntax, H: Host>(
     host: &mut H,
 ) -> Result<Next, Halt<'src>>
     ensures keeps { KeepsPromises (H.promised host.old) (H.promised host.new) }
-    ensures took { let steps = spec.shell_call_steps (contents_of (S.answers body.now.syntax.now) body.now) command.now call.now in
+    ensures took { let steps = spec.shell_call_steps (body_contents_of (S.answers body.now.syntax.now) body.now) command.now call.now in
         AsksHost (H.promised host.old) steps (H.entries host.old) (H.entries host.new) result }
 {
     let answer = host.shell(call)?;
@@ -191,7 +191,7 @@ fn run_unless_dry<'a, 'run, 'src, S: Syntax, E: Evaluation, H: Host>(
     ensures keeps_host { KeepsPromises (H.promised host.old) (H.promised host.new) }
     ensures took { let first = log_of (H.entries host.old) (E.requests evaluation.old) in
         let last = log_of (H.entries host.new) (E.requests evaluation.new) in
-        let steps = spec.unless_dry_steps (contents_of (S.answers body.now.syntax.now) body.now) preparation.now command.now in
+        let steps = spec.unless_dry_steps (body_contents_of (S.answers body.now.syntax.now) body.now) preparation.now command.now in
         HasTrace (both (E.promised evaluation.old) (H.promised host.old)) steps first last result }
 {
     if body.context.config.dry_run {
@@ -221,7 +221,7 @@ fn run_command<'a, 'run, 'src, S: Syntax, E: Evaluation, H: Host>(
     ensures keeps_host { KeepsPromises (H.promised host.old) (H.promised host.new) }
     ensures took { let first = log_of (H.entries host.old) (E.requests evaluation.old) in
         let last = log_of (H.entries host.new) (E.requests evaluation.new) in
-        let steps = spec.one_command_steps (contents_of (S.answers body.now.syntax.now) body.now) preparation.now command.now in
+        let steps = spec.one_command_steps (body_contents_of (S.answers body.now.syntax.now) body.now) preparation.now command.now in
         HasTrace (both (E.promised evaluation.old) (H.promised host.old)) steps first last result }
 {
     let time = ask_time(host, &preparation.timestamp_format)?;
@@ -247,7 +247,7 @@ pub fn run_group<'a, 'run, 'src, S: Syntax, E: Evaluation, H: Host>(
     ensures keeps_host { KeepsPromises (H.promised host.old) (H.promised host.new) }
     ensures took { let first = log_of (H.entries host.old) (E.requests evaluation.old) in
         let last = log_of (H.entries host.new) (E.requests evaluation.new) in
-        let steps = spec.group_steps (contents_of (S.answers body.now.syntax.now) body.now) preparation.now lines.now in
+        let steps = spec.group_steps (body_contents_of (S.answers body.now.syntax.now) body.now) preparation.now lines.now in
         HasTrace (both (E.promised evaluation.old) (H.promised host.old)) steps first last result }
 {
     match ask_command(alloc, body, lines, evaluation)? {

@@ -13,7 +13,7 @@ use Rattle.just_tail.specs.declared.progress.Progress.{Progress}
 use Rattle.just_tail.specs.Words.{Words, as_texts}
 use Rattle.just_tail.specs.Options.{option_of, has_options, place}
 use Rattle.just_tail.specs.Pieces.{Supplied}
-use Rattle.just_tail.specs.Steps.{Step, take_word, close_options, use_switch, positionals_among, is_closed, text_given, Uses, use_at, use_by, uses_from, group}
+use Rattle.just_tail.specs.Steps.{Step, take_word, close_options, use_switch, positionals_among, ends_options, text_given, Uses, use_at, use_by, uses_from, group}
 use Rattle.just_tail.specs.loops.Reader.{HasRead}
 
 -- a word more in one group
@@ -86,13 +86,13 @@ placed_push (take_word w ∷ steps) x =
 placed_push (close_options ∷ steps) x = placed_push steps x
 placed_push (use_switch s g ∷ steps) x = placed_push steps x
 
-closed_same : (steps : List Step) (x : Step) → is_closed (x ∷ []) ≡ false → is_closed (steps ++ x ∷ []) ≡ is_closed steps
+closed_same : (steps : List Step) (x : Step) → ends_options (x ∷ []) ≡ false → ends_options (steps ++ x ∷ []) ≡ ends_options steps
 closed_same [] x e = e
 closed_same (take_word w ∷ steps) x e = closed_same steps x e
 closed_same (close_options ∷ steps) x e = refl
 closed_same (use_switch s g ∷ steps) x e = closed_same steps x e
 
-close_closes : (steps : List Step) → is_closed (steps ++ close_options ∷ []) ≡ true
+close_closes : (steps : List Step) → ends_options (steps ++ close_options ∷ []) ≡ true
 close_closes [] = refl
 close_closes (take_word w ∷ steps) = close_closes steps
 close_closes (close_options ∷ steps) = refl
@@ -104,7 +104,7 @@ and_false false b e = refl
 
 -- a step more whose parameter gains a text
 stands_text : (ps : List Parameter) (before : List Step) (x : Step) (old new : Progress) (j : ℕ) (text : Text) →
-    uses_from ps (positionals_among before) (x ∷ []) ≡ (j, text) ∷ [] → is_closed (x ∷ []) ≡ false → j < length ps → HasRead ps before old →
+    uses_from ps (positionals_among before) (x ∷ []) ≡ (j, text) ∷ [] → ends_options (x ∷ []) ≡ false → j < length ps → HasRead ps before old →
     new.opened ≡ old.opened → new.placed ≡ old.placed + positionals_among (x ∷ []) →
     as_texts new.groups.items ≡ set (as_texts old.groups.items) j (get_or (as_texts old.groups.items) j [] ++ text ∷ []) →
     HasRead ps (before ++ x ∷ []) new
@@ -147,7 +147,7 @@ stands_close ps before old new s o c same =
     let none : positionals_among before ≡ positionals_among before + 0 = omega arith in
     let shows : as_texts new.groups.items ≡ as_texts old.groups.items = ap (λ g. as_texts g.items) same in
     record {
-      opened = o ∙ sym (and_false (has_options ps) (is_closed (before ++ close_options ∷ [])) (close_closes before));
+      opened = o ∙ sym (and_false (has_options ps) (ends_options (before ++ close_options ∷ [])) (close_closes before));
       count = c ∙ s.count ∙ none ∙ sym (placed_push before close_options);
       groups = ap length shows ∙ s.groups;
       each = λ i h.

@@ -11,7 +11,7 @@ use Rattle.just_tail.specs.declared.progress.Progress.{Progress}
 use Rattle.just_tail.specs.Words.{Words, as_texts}
 use Rattle.just_tail.specs.Options.{option_of, has_options}
 use Rattle.just_tail.specs.Pieces.{Supplied, nothing, equals, next, value_of, next_of, letters}
-use Rattle.just_tail.specs.Steps.{Step, take_word, close_options, use_switch, give, is_closed, is_open, text_given, Need, unknown, duplicate, no_text, some_text, asks, need, FitsNeed, IsNext, StepsFollow}
+use Rattle.just_tail.specs.Steps.{Step, take_word, close_options, use_switch, give, ends_options, is_open, text_given, Need, unknown, duplicate, no_text, some_text, asks, need, FitsNeed, IsNext, StepsFollow}
 use Rattle.just_tail.specs.Cause.{ArgumentFault}
 use Rattle.just_tail.specs.Tail.{RefusesSwitch, given_nothing, SwitchIsRefused}
 use Rattle.just_tail.specs.loops.Reader.{HasRead, HoldsAfter, HoldsOpen}
@@ -37,11 +37,11 @@ given_none nothing n rest e f = refl
 given_none (equals v) n rest e f = (cc)
 given_none (next w) n rest e f = let h : (w ∷ []) ≡ [] = f ∙ ap texts (take_none n) in (cc)
 
-closed_none : (ss : List Switch) → is_closed (given_nothing ss) ≡ false
+closed_none : (ss : List Switch) → ends_options (given_nothing ss) ≡ false
 closed_none [] = refl
 closed_none (s ∷ ss) = closed_none ss
 
-closed_more : (before : List Step) (ss : List Switch) → is_closed (before ++ given_nothing ss) ≡ is_closed before
+closed_more : (before : List Step) (ss : List Switch) → ends_options (before ++ given_nothing ss) ≡ ends_options before
 closed_more [] ss = closed_none ss
 closed_more (take_word w ∷ steps) ss = closed_more steps ss
 closed_more (close_options ∷ steps) ss = refl

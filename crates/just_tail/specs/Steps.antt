@@ -34,15 +34,15 @@ positionals_among (close_options ∷ steps) = positionals_among steps
 positionals_among (use_switch s given ∷ steps) = positionals_among steps
 
 -- `--` is among the steps
-abbrev pub is_closed : List Step → Bool
-is_closed [] = false
-is_closed (take_word w ∷ steps) = is_closed steps
-is_closed (close_options ∷ steps) = true
-is_closed (use_switch s given ∷ steps) = is_closed steps
+abbrev pub ends_options : List Step → Bool
+ends_options [] = false
+ends_options (take_word w ∷ steps) = ends_options steps
+ends_options (close_options ∷ steps) = true
+ends_options (use_switch s given ∷ steps) = ends_options steps
 
 -- options may come: some parameter is one, and no `--` stands before
 abbrev pub is_open : List Parameter → List Step → Bool
-is_open ps before = has_options ps && not (is_closed before)
+is_open ps before = has_options ps && not (ends_options before)
 
 -- the text that a switch gives to its parameter
 abbrev pub text_given : Supplied → Text

@@ -4,7 +4,7 @@ use Rattle.std.specs.List.{All, Contains, slice_get}
 use Rattle.std.proofs.lemmas.List.{length-map}
 use Rattle.std.proofs.lemmas.List.Elements.{All-drop, All-nil, All-take}
 use Rattle.just_graph.proofs.Index.{map_get}
-use Rattle.just_recipe.specs.Recipes.{AreOrderedAfter, IsOrdered}
+use Rattle.just_recipe.specs.Recipes.{AreOrderedAfter, DependenciesStandFirst}
 use Rattle.just_recipe.specs.declared.dependency.Dependency.{Dependency}
 use Rattle.just_recipe.specs.declared.recipe.Recipe.{Recipe}
 use Rattle.just_tasks.specs.Pairs.{AllBelow, at_place}
@@ -31,7 +31,7 @@ lone-ordered : (before : List ℕ) (rs : List (Recipe Dependency)) → AreOrdere
 lone-ordered before [] h = tt
 lone-ordered before (r ∷ rs) (new, needs, rest) = (new, All-nil (Contains before), lone-ordered (before ++ r.number.0 ∷ []) rs rest)
 
-pub running-ordered : (b : Bool) (rs : List (Recipe Dependency)) → IsOrdered rs → IsOrdered (running b rs)
+pub running-ordered : (b : Bool) (rs : List (Recipe Dependency)) → DependenciesStandFirst rs → DependenciesStandFirst (running b rs)
 running-ordered true rs h = lone-ordered [] rs h
 running-ordered false rs h = h
 

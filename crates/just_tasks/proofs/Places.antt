@@ -8,7 +8,7 @@ use Rattle.std.proofs.lemmas.Option.{slice_get-get_or}
 use Rattle.just_recipe.specs.declared.dependency.Dependency.{Dependency}
 use Rattle.just_recipe.specs.declared.recipe.Recipe.{Recipe}
 use Rattle.just_tasks.specs.Pairs.{at_place, prior_dependencies, subsequent_dependencies}
-use Rattle.just_recipe.specs.Recipes.{numbers, needs, IsOrdered, AreOrderedAfter}
+use Rattle.just_recipe.specs.Recipes.{numbers, needs, DependenciesStandFirst, AreOrderedAfter}
 use Rattle.just_recipes.specs.Places.{place_of}
 use Rattle.just_recipes.proofs.Places.{place-within}
 use Rattle.just_recipes.proofs.RecipeLemmas.{numbers-append}
@@ -52,7 +52,7 @@ ordered-needs front (x ∷ rs) (suc k) r p e =
 abbrev pub IsBefore : List (Recipe Dependency) → ℕ → Dependency → Type 0
 IsBefore rs k d = (Contains (numbers rs) d.recipe.0) × (place_of rs d.recipe.0 < k)
 
-pub needs-before : (rs : List (Recipe Dependency)) (k : ℕ) (r : Recipe Dependency) → IsOrdered rs → slice_get rs k ≡ Some r → All (IsBefore rs k) r.dependencies
+pub needs-before : (rs : List (Recipe Dependency)) (k : ℕ) (r : Recipe Dependency) → DependenciesStandFirst rs → slice_get rs k ≡ Some r → All (IsBefore rs k) r.dependencies
 needs-before rs k r ordered e =
     let zero-more : 0 + k ≡ k = omega arith in
     let h : All (λ (n : ℕ). (Contains (numbers rs) n) × (place_of rs n < k)) (needs r) =
@@ -72,14 +72,14 @@ at-none f [] k e = refl
 at-none f (x ∷ rs) zero e = absurd (cc)
 at-none f (x ∷ rs) (suc k) e = at-none f rs k e
 
-at-before : (part : Recipe Dependency → List Dependency) → ((r : Recipe Dependency) (P : Dependency → Type 0) → All P r.dependencies → All P (part r)) → (rs : List (Recipe Dependency)) (k : ℕ) (o : Option (Recipe Dependency)) → IsOrdered rs → slice_get rs k ≡ o → All (IsBefore rs k) (at_place part rs k)
+at-before : (part : Recipe Dependency → List Dependency) → ((r : Recipe Dependency) (P : Dependency → Type 0) → All P r.dependencies → All P (part r)) → (rs : List (Recipe Dependency)) (k : ℕ) (o : Option (Recipe Dependency)) → DependenciesStandFirst rs → slice_get rs k ≡ o → All (IsBefore rs k) (at_place part rs k)
 at-before part some rs k None ordered e = subst (All (IsBefore rs k)) (sym (at-none part rs k e)) (All-nil (IsBefore rs k))
 at-before part some rs k (Some r) ordered e = subst (All (IsBefore rs k)) (sym (at-place part rs k r e)) (some r (IsBefore rs k) (needs-before rs k r ordered e))
 
-pub priors-before : (rs : List (Recipe Dependency)) (k : ℕ) → IsOrdered rs → All (IsBefore rs k) (prior_dependencies rs k)
+pub priors-before : (rs : List (Recipe Dependency)) (k : ℕ) → DependenciesStandFirst rs → All (IsBefore rs k) (prior_dependencies rs k)
 priors-before rs k ordered = at-before (λ r. take r.priors r.dependencies) (λ r P h. All-take P r.priors r.dependencies h) rs k (slice_get rs k) ordered refl
 
-pub subsequents-before : (rs : List (Recipe Dependency)) (k : ℕ) → IsOrdered rs → All (IsBefore rs k) (subsequent_dependencies rs k)
+pub subsequents-before : (rs : List (Recipe Dependency)) (k : ℕ) → DependenciesStandFirst rs → All (IsBefore rs k) (subsequent_dependencies rs k)
 subsequents-before rs k ordered = at-before (λ r. drop r.priors r.dependencies) (λ r P h. All-drop P r.priors r.dependencies h) rs k (slice_get rs k) ordered refl
 
 pub OnOk-map : {A E P Q : Type 0} (r : Result A E) → (P → Q) → OnOk r P → OnOk r Q

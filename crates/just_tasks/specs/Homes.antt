@@ -9,9 +9,8 @@ use Rattle.just_parts.specs.Scopes.{Scoped, scopes_of}
 use Rattle.just_parts.specs.Syntax.{SyntaxAnswers}
 use Rattle.just_paths.specs.contracts.modulepath.ModulepathPartialEq.TheImpl as path_eq
 use Rattle.just_paths.specs.declared.modulepath.Modulepath.{Modulepath}
-use Rattle.just_recipe.specs.Grouping.{concatenated}
+use Rattle.just_recipe.specs.Recipes.{arguments_of}
 use Rattle.just_recipe.specs.declared.dependency.Dependency.{Dependency}
-use Rattle.just_recipe.specs.declared.dependency.DependencyArgument.{DependencyArgument}
 use Rattle.just_recipe.specs.declared.recipe.Recipe.{Recipe}
 use Rattle.just_run_layers.specs.Covering.{BindsRead, module_of}
 use Rattle.just_tasks.specs.declared.scopes.ModuleScope.{ModuleScope}
@@ -25,10 +24,6 @@ Modules = HashMap Modulepath ModuleScope (BuildHasherDefault FoldHasher)
 abbrev pub module_scope_at : Modules → Option Modulepath → Option ModuleScope
 module_scope_at modules None = None
 module_scope_at modules (Some path) = get path_eq.ghosts.eq modules path
-
--- the arguments of a dependency, one after another
-abbrev pub arguments_of : Dependency → List DependencyArgument
-arguments_of d = concatenated d.arguments
 
 -- what an expression in its scope reads is bound among some values
 abbrev pub IsRead : Known → Scope → Scoped → Type 0

@@ -56,12 +56,12 @@ running true recipes = map lone recipes
 running false recipes = recipes
 
 -- for the private functions: the scene of a grammar and of recipes in the modules of a run
-abbrev pub contents_of : ModuleScope → ModuleContents
-contents_of m = record { context = evaluation.contents_of m.context; scope = m.scope }
+abbrev pub scope_contents_of : ModuleScope → ModuleContents
+scope_contents_of m = record { context = evaluation.context_contents_of m.context; scope = m.scope }
 
 abbrev pub contents_found : Option ModuleScope → Option ModuleContents
 contents_found None = None
-contents_found (Some m) = Some (contents_of m)
+contents_found (Some m) = Some (scope_contents_of m)
 
 abbrev pub scene_with : SyntaxAnswers → Modules → List (Recipe Dependency) → Scene
 scene_with syntax modules recipes = record { syntax = syntax; recipes = recipes; modules = λ path. contents_found (module_scope_at modules path) }

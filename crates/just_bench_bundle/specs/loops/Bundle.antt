@@ -5,7 +5,7 @@ use Rattle.just_paths.specs.Clean.{IsClean}
 use Rattle.just_bench_bundle.specs.declared.bundle.BundleError.{BundleError}
 use Rattle.just_bench_bundle.specs.declared.bundle.BundleError.TheVariants as error
 use Rattle.just_bench_expressions.specs.Lines.{is_newline}
-use Rattle.just_bench_bundle.specs.Bundle.{Text}
+use Rattle.just_names.specs.Texts.{Text}
 
 -- why a part, which begins in this line, is no file
 abbrev pub IsNoFile : ℕ → Text → BundleError → Type 0

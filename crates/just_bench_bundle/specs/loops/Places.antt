@@ -13,7 +13,7 @@ use Rattle.just_names.specs.Texts.{Text}
 use Rattle.just_parts.specs.Items.{Item}
 use Rattle.just_parts.specs.declared.layers.config.Config.{Config}
 use Rattle.just_paths.specs.Clean.{IsClean}
-use Rattle.just_bench_bundle.specs.Places.{StandsIn}
+use Rattle.just_bench_bundle.specs.Places.{LinkStandsIn}
 
 -- one with a property is found, or there is none
 abbrev pub Finds : (ℕ → Type 0) → Option ℕ → Type 0
@@ -22,8 +22,8 @@ Finds P None = (line : ℕ) → P line → ⊥
 
 -- the same of the items of a file, where its path is clean
 abbrev pub FindsIn : World → Text → Link → Option ℕ → Type 0
-FindsIn w path to (Some line) = StandsIn w path to line
-FindsIn w path to None = IsClean path → (line : ℕ) → StandsIn w path to line → ⊥
+FindsIn w path to (Some line) = LinkStandsIn w path to line
+FindsIn w path to None = IsClean path → (line : ℕ) → LinkStandsIn w path to line → ⊥
 
 -- the file at a path has these items, bare
 abbrev pub HasItems : Files → Text → Text → Option (List Item) → Type 0

@@ -17,7 +17,7 @@ use Rattle.just_parts.specs.Told.{IsPlaceIn, IsPlaceInOne, IsToldIn}
 use Rattle.just_bench_values.specs.Lookup.{constant_values, functions_in, local_values}
 use Rattle.just_bench_values.specs.loops.Lookup.{IsPlaceOfCall}
 use Rattle.just_bench_values.specs.Sink.{sent, set_apart, spaced, texts_of}
-use Rattle.just_bench_values.specs.Values.{Outcome, all_of, called, hiding, none_called, one_after_another, value_with}
+use Rattle.just_bench_values.specs.Values.{Outcome, all_of, call_outcome, hiding, none_called, one_after_another, value_with}
 use Rattle.just_bench_values.specs.declared.sink.Sink.{Sink}
 use Rattle.just_bench_values.specs.declared.sink.Sink.TheVariants as sink
 use Rattle.just_bench_values.specs.declared.tasks.Among.{Among}
@@ -29,7 +29,7 @@ use Rattle.just_bench_values.specs.declared.tasks.Task.TheVariants as task
 -- a call where so many more may stand inside each other
 abbrev pub call_with : ℕ → Functions → Values → Text → List (List Text) → Outcome
 call_with zero functions constants = none_called
-call_with (suc calls) functions constants = called (value_with calls functions constants) functions
+call_with (suc calls) functions constants = call_outcome (value_with calls functions constants) functions
 
 -- a state with one more task
 abbrev pub with_task : Task → State → State
@@ -39,15 +39,15 @@ abbrev pub with_call : Bor Name → Bor (List Expression) → List (List Text) �
 with_call name rest values s = with_task (task.Call (record { name = name; rest = rest; values = values })) s
 
 -- a state where a sum begins
-abbrev pub opened_at : State → Sink → State
-opened_at s (sink.Texts texts) = record { tasks = task.Close (sink.Texts texts) ∷ s.tasks; frame = s.frame; sink = sink.Joined [] false }
-opened_at s (sink.Joined written apart) = record { tasks = s.tasks; frame = s.frame; sink = sink.Joined (spaced apart written) false }
+abbrev pub sum_opened_at : State → Sink → State
+sum_opened_at s (sink.Texts texts) = record { tasks = task.Close (sink.Texts texts) ∷ s.tasks; frame = s.frame; sink = sink.Joined [] false }
+sum_opened_at s (sink.Joined written apart) = record { tasks = s.tasks; frame = s.frame; sink = sink.Joined (spaced apart written) false }
 
-abbrev pub opened : State → State
-opened s = opened_at s s.sink
+abbrev pub sum_opened : State → State
+sum_opened s = sum_opened_at s s.sink
 
 abbrev pub with_sum : Bor Expression → Bor Expression → State → State
-with_sum lhs rhs s = with_task (task.Value lhs) (with_task (task.Right rhs) (opened s))
+with_sum lhs rhs s = with_task (task.Value lhs) (with_task (task.Right rhs) (sum_opened s))
 
 -- how many expressions there are in the bodies of functions
 abbrev pub body_size : (Text × FunctionDefinition) → ℕ

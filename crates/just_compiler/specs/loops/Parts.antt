@@ -66,8 +66,8 @@ abbrev pub BreaksOwn : Layers → Checked → Around → Cause → Type 0
 BreaksOwn layers it = BreaksStanding layers (evaluated_in it.constants) (contents_in it.definitions)
 
 -- the value of an expression among the constants of a module that is checked
-abbrev pub value_of : Evaluator → Checked → Expression → Option (List Text)
-value_of evaluator it = value_among evaluator (contents_in it.definitions) (evaluated_in it.constants).constants
+abbrev pub checked_value : Evaluator → Checked → Expression → Option (List Text)
+checked_value evaluator it = value_among evaluator (contents_in it.definitions) (evaluated_in it.constants).constants
 
 -- whatever is evaluated of it while compiling reads what has a value
 abbrev pub IsCheckedCovered : Checked → Type 0
@@ -75,7 +75,7 @@ IsCheckedCovered it = CoversAll it.variables (scope_values it.constants.scope) (
 
 -- what its recipes are completed to
 abbrev pub completion_here : SyntaxAnswers → Evaluator → Checked → Completion
-completion_here answers evaluator it = completion_in (value_of evaluator it) answers it.variables.assignments it.variables.functions (has_number it.constants.overrides) it.constants.settings
+completion_here answers evaluator it = completion_in (checked_value evaluator it) answers it.variables.assignments it.variables.functions (has_number it.constants.overrides) it.constants.settings
 
 -- The kept recipes of a module are linked over what is around them: those that stand, the table of the others, and all recipes, of which these are added, completed.
 pub record AreLinkedOver (completed : Completion) (lists : Bool) (recipes : List (Recipe UnresolvedDependency)) (it : Around) (path : Modulepath) (standing : List (Recipe UnresolvedDependency)) (disabled : List (Text × Disabled)) (all : List (Recipe Dependency)) : Type 0 where

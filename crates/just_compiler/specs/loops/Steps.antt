@@ -32,7 +32,7 @@ use Rattle.just_module_contents.specs.Groups.{BreaksContents, KeepsContents, Lin
 use Rattle.just_module_contents.specs.Kept.{kept_recipes}
 use Rattle.just_module_contents.specs.Named.{recipes_by, said_from, variable_by}
 use Rattle.just_module_contents.specs.Resolved.{HasPriors, unresolved_numbers}
-use Rattle.just_module_recipes.specs.Links.{Around, around}
+use Rattle.just_module_recipes.specs.Links.{Around, around_recipes}
 use Rattle.just_module_recipes.specs.loops.Links.{around_of, links_by, told_by}
 use Rattle.just_names.specs.declared.name.Name.{Name}
 use Rattle.just_recipe.specs.declared.dependency.Dependency.{Dependency}
@@ -67,9 +67,9 @@ BreaksPlace given files joined p links told = BreaksContents (layers_at given (p
 abbrev pub names_of_labels : List Label → List (Option Name)
 names_of_labels = map (λ (l : Label). l.name)
 
--- what there is around the recipes of the module at a place, whose paths lead through these justfiles, under labels, where these recipes are held
+-- what there is around_recipes the recipes of the module at a place, whose paths lead through these justfiles, under labels, where these recipes are held
 abbrev pub around_place : Given → Files → Joined → ℕ → List Justfile → List Label → List (Recipe Dependency) → Around
-around_place given files joined p inner labels held = around (notes_of_place given.syntax.enabled files joined p).absent_modules (by_name (with_labels inner labels)) held
+around_place given files joined p inner labels held = around_recipes (notes_of_place given.syntax.enabled files joined p).absent_modules (by_name (with_labels inner labels)) held
 
 -- What an error may tell of the module at a place, whose paths lead through the justfiles that are held at the places of the modules in it, each under the name of its declaration: a rule that is broken, or a pattern that is past its limits.
 pub record BreaksOver (given : Given) (files : Files) (joined : Joined) (p : ℕ) (slots : List (Option Justfile)) (held : List (Recipe Dependency)) (c : Cause) : Type 0 where

@@ -12,11 +12,11 @@ use Rattle.just_execution.specs.Walking.{Prepared}
 use Rattle.just_execution.specs.TaskInteractions.{ask_steps}
 
 -- for the private functions: what asking came to
-abbrev pub prepared : Preparation → Prepared
-prepared p = record { held = p.held; priors = p.priors.items }
+abbrev pub prepared_as : Preparation → Prepared
+prepared_as p = record { held = p.held; priors = p.priors.items }
 
 abbrev pub prepared_of : Result Preparation Halt → Result Prepared Halt
-prepared_of (Ok p) = Ok (prepared p)
+prepared_of (Ok p) = Ok (prepared_as p)
 prepared_of (Err e) = Err e
 
 -- the questions before the priors

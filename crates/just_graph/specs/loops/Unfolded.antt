@@ -32,8 +32,8 @@ abbrev pub plain : HashKey → Key
 plain h = record { path = h.0.items; node = h.1 }
 
 -- the places of the keys of a list, and no others
-abbrev pub IsIndex : List Key → (HashKey → Option ℕ) → Type 0
-IsIndex ks places = (h : HashKey) → MatchOption (places h) (Contains ks (plain h) → ⊥) (λ i. slice_get ks i ≡ Some (plain h))
+abbrev pub IsKeyIndex : List Key → (HashKey → Option ℕ) → Type 0
+IsKeyIndex ks places = (h : HashKey) → MatchOption (places h) (Contains ks (plain h) → ⊥) (λ i. slice_get ks i ≡ Some (plain h))
 
 -- one more key has its place
 abbrev pub IsPut : Key → ℕ → (HashKey → Option ℕ) → (HashKey → Option ℕ) → Type 0

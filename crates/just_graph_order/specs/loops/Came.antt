@@ -3,7 +3,7 @@ use Rattle.std.specs.Prelude.{◌≡◌, ℕ, ◌<◌, List, length, slice_index
 use Rattle.std.proofs.Common.{◌⊎◌}
 
 -- Number a led to b: it is the start where the place noted for b is b's own, and else it stands at that earlier place.
-pub record CameBy (start : ℕ) (found came : List ℕ) (a b : ℕ) : Type 0 where
+pub record CameThere (start : ℕ) (found came : List ℕ) (a b : ℕ) : Type 0 where
   pub place : ℕ
   pub inside : place < length found
   pub is : slice_index found place ≡ b

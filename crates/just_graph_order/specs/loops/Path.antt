@@ -5,5 +5,5 @@ use Rattle.just_graph_order.specs.declared.finish_order.Frame.{Frame}
 abbrev pub nodes : List Frame → List ℕ
 nodes frames = map (λ f. f.node) frames
 
-abbrev pub counts : List Frame → List ℕ
-counts frames = map (λ f. f.passed) frames
+abbrev pub frame_counts : List Frame → List ℕ
+frame_counts frames = map (λ f. f.passed) frames

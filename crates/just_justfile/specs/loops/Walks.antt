@@ -7,9 +7,9 @@ use Rattle.just_justfile.specs.declared.resolution.Reached.TheVariants as reache
 use Rattle.just_justfile.specs.Walks.{Absent, End, Here, Inside, Nowhere}
 
 -- the absent modules where a walk is: in the module into which it led, or where it began
-abbrev pub absent_in : List (Text × Text) → Option Justfile → List (Text × Text)
-absent_in absent None = absent
-absent_in absent (Some j) = (out-Justfile j).absent_modules
+abbrev pub absent_there : List (Text × Text) → Option Justfile → List (Text × Text)
+absent_there absent None = absent
+absent_there absent (Some j) = (out-Justfile j).absent_modules
 
 -- what a walk along names answers: of a module without a file how many names lead to it
 abbrev pub IsReached : List Text → End → Reached → Type 0

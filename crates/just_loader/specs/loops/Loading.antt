@@ -15,7 +15,7 @@ use Rattle.just_errors.specs.declared.error.Error.TheVariants as error
 use Rattle.just_source.specs.declared.source.Source.{Source}
 use Rattle.just_loader.specs.Keys.{spends_at}
 use Rattle.just_loader.specs.Loaded.{CameIn, IsAstOf, names_in, names_on, with_path}
-use Rattle.just_loader.specs.loops.Placed.{file_at, file_node, name_at, text_step}
+use Rattle.just_loader.specs.loops.Placed.{scanned_path, file_node, scanned_name, text_step}
 use Rattle.just_loader.specs.Reached.{World, ast_of, link}
 use Rattle.just_loader.specs.loops.Scanned.{ArePlacesOf, IsScan, paths_in}
 use Rattle.just_loader.specs.declared.scan_result.Scan.{Scan}
@@ -42,7 +42,7 @@ AreNodes scan us ns = AreFirst (steps scan.rows.items) 0 ns × AllTold (steps sc
 -- the path of a group after a step, and the folder of its file
 abbrev pub components_after : Scan → List Text → Option ℕ → List Text
 components_after scan components None = components
-components_after scan components (Some number) = components ++ name_at scan number ∷ []
+components_after scan components (Some number) = components ++ scanned_name scan number ∷ []
 
 abbrev pub folder_after : Text → Option ℕ → Text → Text
 folder_after folder None path = folder
@@ -50,12 +50,12 @@ folder_after folder (Some number) path = folder_of path
 
 -- How the file that a step leads to comes in, from how the file of the step did. Its depth is set later.
 pub record ComesNext (scan : Scan) (before : Source) (s : Step) (source : Source) : Type 0 where
-  pub chain : source.file_path ≡ before.file_path ++ file_at scan s.target ∷ []
+  pub chain : source.file_path ≡ before.file_path ++ scanned_path scan s.target ∷ []
   pub offsets : source.import_offsets ≡ offsets_after before.import_offsets s.offset s.enters
   pub components : components_of source.namepath ≡ components_after scan (components_of before.namepath) s.enters
   pub names : names_in source.namepath ≡ names_in before.namepath ++ names_on (text_step scan s ∷ [])
-  pub path : source.path ≡ file_at scan s.target
-  pub folder : source.working_directory ≡ folder_after before.working_directory s.enters (file_at scan s.target)
+  pub path : source.path ≡ scanned_path scan s.target
+  pub folder : source.working_directory ≡ folder_after before.working_directory s.enters (scanned_path scan s.target)
 
 -- how a node's file came in, in each world that the scan is of
 abbrev pub CameInWorlds : Scan → Node → Source → Type 0
@@ -70,7 +70,7 @@ abbrev pub CameInAt : Scan → List Unfolded → ℕ → Source → Type 0
 CameInAt scan us place source = (ns : List Node) (n : Node) → AreNodes scan us ns → slice_get ns place ≡ Some n → CameInWorlds scan n source
 
 -- how the file of each node came in
-pub record AreSources (scan : Scan) (ns : List Node) (sources : List Source) : Type 0 where
+pub record AreNodeSources (scan : Scan) (ns : List Node) (sources : List Source) : Type 0 where
   pub count : length sources ≡ length ns
   pub came : CameInSoFar scan ns sources
 
@@ -99,7 +99,7 @@ pub record AreParsed (w : World) (scan : Scan) (ns : List Node) (asts : List Ast
 
 -- how many numbers the texts of elements take
 abbrev pub spent_by : World → Scan → List Unfolded → ℕ
-spent_by w scan us = sum_by (λ (u : Unfolded). spends_at w (file_at scan u.node)) us
+spent_by w scan us = sum_by (λ (u : Unfolded). spends_at w (scanned_path scan u.node)) us
 
 -- Memory is refused, or numbers run out: those that were given before, and those of the text.
 abbrev pub StopsAt : ℕ → ℕ → Error → Type 0
@@ -112,7 +112,7 @@ StopsAt given spends error.Memory = Unit {0}
 
 -- the same of the text of the file at a place
 abbrev pub StopsInFile : Scan → SyntaxAnswers → ℕ → ℕ → Error → Type 0
-StopsInFile scan answers place given e = InWorlds scan answers (λ w. StopsAt given (spends_at w (file_at scan place)) e)
+StopsInFile scan answers place given e = InWorlds scan answers (λ w. StopsAt given (spends_at w (scanned_path scan place)) e)
 
 -- the same of the first texts of elements together, after those that were given before
 abbrev pub Stops : World → Scan → List Unfolded → ℕ → Error → Type 0

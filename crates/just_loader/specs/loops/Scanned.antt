@@ -22,19 +22,19 @@ use Rattle.just_loader.specs.declared.scan_result.Scan.{Scan}
 use Rattle.just_loader.specs.declared.scan_result.ScannedFile.{ScannedFile}
 
 -- the place of the path to which a link leads
-abbrev pub IsPlaceOf : List Text → Link → Option ℕ → Type 0
-IsPlaceOf paths Unlinked None = Unit {0}
-IsPlaceOf paths Unlinked (Some place) = ⊥
-IsPlaceOf paths (To path) None = ⊥
-IsPlaceOf paths (To path) (Some place) = slice_get paths place ≡ Some path
-IsPlaceOf paths (AtFault cause) place = ⊥
+abbrev pub IsLinkPlace : List Text → Link → Option ℕ → Type 0
+IsLinkPlace paths Unlinked None = Unit {0}
+IsLinkPlace paths Unlinked (Some place) = ⊥
+IsLinkPlace paths (To path) None = ⊥
+IsLinkPlace paths (To path) (Some place) = slice_get paths place ≡ Some path
+IsLinkPlace paths (AtFault cause) place = ⊥
 
 -- the same of each link, with the place beside it
 abbrev pub ArePlacesOf : List Text → List Link → List (Option ℕ) → Type 0
 ArePlacesOf paths [] [] = Unit {0}
 ArePlacesOf paths [] (target ∷ targets) = ⊥
 ArePlacesOf paths (link ∷ links) [] = ⊥
-ArePlacesOf paths (link ∷ links) (target ∷ targets) = IsPlaceOf paths link target × ArePlacesOf paths links targets
+ArePlacesOf paths (link ∷ links) (target ∷ targets) = IsLinkPlace paths link target × ArePlacesOf paths links targets
 
 -- The step to a place of what leads to a file: that of an import has the offset of its text, and that of a module enters the number of its name and
 -- has the place of the name.

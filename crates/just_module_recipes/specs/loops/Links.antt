@@ -6,11 +6,11 @@ use Rattle.just_module_contents.specs.Groups.{Links, OfAliases, OfDependencies, 
 use Rattle.just_module_contents.specs.Kept.{kept_recipes}
 use Rattle.just_recipe.specs.declared.dependency.Dependency.{Dependency}
 use Rattle.just_recipe.specs.declared.recipe.Recipe.{Recipe}
-use Rattle.just_module_recipes.specs.Links.{Around, BreaksAliases, BreaksLinks, BreaksStanding, IsPastLimitsBy, around}
+use Rattle.just_module_recipes.specs.Links.{Around, BreaksAliases, BreaksLinks, BreaksStanding, IsPastLimitsBy, around_recipes}
 
--- what is around the recipes of a compiled module
+-- what is around_recipes the recipes of a compiled module
 abbrev pub around_of : Justfile → List (Recipe Dependency) → Around
-around_of j held = around (out-Justfile j).absent_modules (out-Justfile j).modules held
+around_of j held = around_recipes (out-Justfile j).absent_modules (out-Justfile j).modules held
 
 -- what is broken of the last groups
 abbrev pub links_by : Contents → Around → Links

@@ -4,7 +4,7 @@ use Rattle.std.specs.BTreeSet.{BTreeSet}
 use Rattle.std.specs.List.{All, Contains}
 use Rattle.just_ast_definitions.specs.declared.parameter.Parameter.{Parameter}
 use Rattle.just_justfile.specs.declared.disabled.Disabled.{Disabled}
-use Rattle.just_module_contents.specs.Recipes.{name_of, recipe_at}
+use Rattle.just_module_contents.specs.Recipes.{name_of_recipe, recipe_at}
 use Rattle.just_module_contents.specs.Resolved.{path_to}
 use Rattle.just_module_contents.specs.Rules.{IsOutside}
 use Rattle.just_module_recipes.specs.Links.{Around, Disables, Takes}
@@ -25,7 +25,7 @@ use Rattle.just_recipe.specs.declared.recipe.Recipe.{Recipe}
 -- The sets at places are exactly the paths that disable the recipes there.
 pub record AreExact (recipes : List (Recipe UnresolvedDependency)) (it : Around) (sets : List (BTreeSet Modulepath)) : Type 0 where
   pub count : length sets ≡ length recipes
-  pub exact : (i : ℕ) → i < length recipes → (path : Modulepath) → Contains (keys_at sets i) path ↔ Disables recipes it (name_of (recipe_at recipes i)) path
+  pub exact : (i : ℕ) → i < length recipes → (path : Modulepath) → Contains (keys_at sets i) path ↔ Disables recipes it (name_of_recipe (recipe_at recipes i)) path
 
 -- the recipe that a target is can be read
 abbrev pub IsThere : List (Recipe UnresolvedDependency) → List (Recipe Dependency) → Target → Type 0
@@ -34,10 +34,10 @@ IsThere recipes held (Far number) = IsSome (find_number held number.0)
 IsThere recipes held (Gone set) = ⊥
 
 -- the number of the recipe that a target is
-abbrev pub number_of : List (Recipe UnresolvedDependency) → Target → Number
-number_of recipes (Near place) = (recipe_at recipes place).number
-number_of recipes (Far number) = number
-number_of recipes (Gone set) = no_number
+abbrev pub target_number : List (Recipe UnresolvedDependency) → Target → Number
+target_number recipes (Near place) = (recipe_at recipes place).number
+target_number recipes (Far number) = number
+target_number recipes (Gone set) = no_number
 
 -- its parameters
 abbrev pub parameters_in : Option (Recipe Dependency) → List Parameter
@@ -65,7 +65,7 @@ AreGivenSets lists recipes it sets n = (i : ℕ) → i < n → keys_at sets i �
 module _ (lists : Bool) (recipes : List (Recipe UnresolvedDependency)) (held : List (Recipe Dependency)) where
   -- a dependency with the number of what it leads to, and its arguments in groups
   abbrev pub link_of : UnresolvedDependency → Target → Dependency
-  link_of d t = record { arguments = grouped lists (parameters_of recipes held t) d.arguments; path = d.recipe; recipe = number_of recipes t }
+  link_of d t = record { arguments = grouped lists (parameters_of recipes held t) d.arguments; path = d.recipe; recipe = target_number recipes t }
 
   abbrev pub links_of : List UnresolvedDependency → List Target → List Dependency
   links_of [] ts = []
@@ -76,7 +76,7 @@ module _ (lists : Bool) (recipes : List (Recipe UnresolvedDependency)) (held : L
 module _ (by : Recipe UnresolvedDependency → Recipe UnresolvedDependency) (needed : List (List Number)) (lists : Bool) (recipes : List (Recipe UnresolvedDependency)) (held : List (Recipe Dependency)) where
   -- what is made of a recipe
   abbrev pub made_of : Modulepath → Recipe UnresolvedDependency → List Number → List Target → Recipe Dependency
-  made_of path r numbers row = record (resolved (by r) (links_of lists recipes held (by r).dependencies row) path (path_to path (name_of r))) { variable_references = numbers }
+  made_of path r numbers row = record (resolved (by r) (links_of lists recipes held (by r).dependencies row) path (path_to path (name_of_recipe r))) { variable_references = numbers }
 
   -- the same where no path disables it
   abbrev pub settled_of : Modulepath → List Target → List Modulepath → ℕ → List (Recipe Dependency)

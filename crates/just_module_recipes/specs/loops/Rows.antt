@@ -7,9 +7,9 @@ use Rattle.just_errors.specs.Causes.{Cause, Broken}
 use Rattle.just_errors.specs.declared.compile_error.CompileErrorKind.TheVariants as kind
 use Rattle.just_justfile.specs.declared.resolution.Resolution.{Resolution}
 use Rattle.just_justfile.specs.declared.resolution.Resolution.TheVariants as resolution
-use Rattle.just_module_contents.specs.Recipes.{name_of, named_paths, recipe_at}
+use Rattle.just_module_contents.specs.Recipes.{name_of_recipe, named_paths, recipe_at}
 use Rattle.just_module_contents.specs.Rules.{DependsBy, IsRecipeCircleOf, IsDependencyOn}
-use Rattle.just_module_recipes.specs.Links.{Around, PathLeadsTo, IsNameOf, around, found_by}
+use Rattle.just_module_recipes.specs.Links.{Around, PathLeadsTo, IsNameOf, around_recipes, found_by}
 use Rattle.just_module_recipes.specs.declared.targets.Surroundings.{Surroundings}
 use Rattle.just_module_recipes.specs.declared.targets.Target.{Target}
 use Rattle.just_module_recipes.specs.declared.targets.Target.TheVariants.{Near, Far, Gone}
@@ -22,9 +22,9 @@ use Rattle.just_recipe.specs.declared.dependency.UnresolvedDependency.{Unresolve
 use Rattle.just_recipe.specs.declared.recipe.Recipe.{Recipe}
 use Rattle.just_module_recipes.specs.Rows.{keys_at}
 
--- what the code has around a module's recipes
+-- what the code has around_recipes a module's recipes
 abbrev pub around_by : Surroundings → Around
-around_by it = around it.absent.now it.modules.now it.recipes.now
+around_by it = around_recipes it.absent.now it.modules.now it.recipes.now
 
 -- what a walk through the modules gives
 abbrev pub far_of : Option (Resolution Number) → Option Target
@@ -59,7 +59,7 @@ pub record AreRecipeRows (recipes : List (Recipe UnresolvedDependency)) (it : Ar
   pub count : length rows ≡ n
   pub each : (k : ℕ) → k < n → AreTargets recipes it (recipe_at recipes k).dependencies (get_or rows k [])
 
--- the same, whatever there is around the recipes
+-- the same, whatever there is around_recipes the recipes
 abbrev pub HasTargets : List (Recipe UnresolvedDependency) → ℕ → List Target → Type 0
 HasTargets recipes place row = (it : Around) × AreTargets recipes it (recipe_at recipes place).dependencies row
 
@@ -85,7 +85,7 @@ pub record IsOrderOf (rows : List (List Target)) (order : List ℕ) : Type 0 whe
 pub record IsTokenOn (recipes : List (Recipe UnresolvedDependency)) (dependent place : ℕ) (token : Place) : Type 0 where
   pub path : Namepath
   pub depends : Contains (named_paths (recipe_at recipes dependent)) path
-  pub names : texts_of_path path ≡ name_of (recipe_at recipes place) ∷ []
+  pub names : texts_of_path path ≡ name_of_recipe (recipe_at recipes place) ∷ []
   pub token_is : token ≡ path.last.token
 
 -- A dependency leads to no recipe.
@@ -108,11 +108,11 @@ pub record SameMembers {A : Type 0} (xs ys : List A) : Type 0 where
   pub back : (x : A) → Contains ys x → Contains xs x
 
 -- the sets at places, with the paths of what is gone
-abbrev pub gathered : List (BTreeSet Modulepath) → List Target → List Modulepath
-gathered sets [] = []
-gathered sets (Near j ∷ ts) = keys_at sets j ++ gathered sets ts
-gathered sets (Far number ∷ ts) = gathered sets ts
-gathered sets (Gone set ∷ ts) = set.keys ++ gathered sets ts
+abbrev pub gathered_paths : List (BTreeSet Modulepath) → List Target → List Modulepath
+gathered_paths sets [] = []
+gathered_paths sets (Near j ∷ ts) = keys_at sets j ++ gathered_paths sets ts
+gathered_paths sets (Far number ∷ ts) = gathered_paths sets ts
+gathered_paths sets (Gone set ∷ ts) = set.keys ++ gathered_paths sets ts
 
 -- the sets of the first n of an order are exactly what bars
 abbrev pub AreTold : List (List Target) → List ℕ → ℕ → List (BTreeSet Modulepath) → Type 0

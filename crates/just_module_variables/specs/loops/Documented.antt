@@ -19,8 +19,8 @@ abbrev pub known_by : SyntaxAnswers → Variables → Known
 known_by answers variables = known answers variables.assignments variables.functions
 
 -- the value of an expression among constants, by the tables of a module
-abbrev pub value_by : Evaluator → Variables → Values → Expression → Option (List Text)
-value_by evaluator variables values e = evaluator.value (functions_by_name variables.functions) values (bare e)
+abbrev pub value_by_tables : Evaluator → Variables → Values → Expression → Option (List Text)
+value_by_tables evaluator variables values e = evaluator.value (functions_by_name variables.functions) values (bare e)
 
 -- whatever the doc of a declaration reads, as the tables of a module have it, has a value
 abbrev pub CoversDoc : Variables → Values → Label → Type 0

@@ -7,7 +7,7 @@ use Rattle.just_ast_definitions.specs.declared.assignment.Assignment.{Assignment
 use Rattle.just_ast_definitions.specs.declared.function_definition.FunctionDefinition.{FunctionDefinition}
 use Rattle.just_ast_definitions.specs.declared.function_definition.FunctionParameter.{FunctionParameter}
 use Rattle.just_table.specs.Entries.{IsKeyed, find, put_all}
-use Rattle.just_module_variables.specs.Numbered.{assignment_by, function_by, name_of_assignment, name_of_function}
+use Rattle.just_module_variables.specs.Numbered.{assignment_by, function_numbered, name_of_assignment, name_of_function}
 
 -- numbers are those of variables, if each stands under its own name
 abbrev pub AreBindings : List (Text × Assignment) → (Text → Option Number) → Type 0
@@ -18,4 +18,4 @@ abbrev pub assignments_by : (List FunctionParameter → Text → Option Number) 
 assignments_by number assignments = put_all name_of_assignment [] (map (assignment_by number) assignments)
 
 abbrev pub functions_by : (List FunctionParameter → Text → Option Number) → List FunctionDefinition → List (Text × FunctionDefinition)
-functions_by number functions = put_all name_of_function [] (map (function_by number) functions)
+functions_by number functions = put_all name_of_function [] (map (function_numbered number) functions)

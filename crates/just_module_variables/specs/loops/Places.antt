@@ -5,14 +5,14 @@ use Rattle.std.specs.Str.{bytes_eq}
 use Rattle.just_names.specs.Texts.{Text}
 use Rattle.just_ast_references.specs.Mentions.{Mention}
 use Rattle.just_parts.specs.Scopes.{Scoped}
-use Rattle.just_module_variables.specs.loops.Steps.{target_of, targets_of}
+use Rattle.just_module_variables.specs.loops.Steps.{target_of, node_targets}
 use Rattle.just_module_variables.specs.declared.nodes.Places.{Places}
 
 abbrev pub target_in : Places → (Text → Bool) → Mention → List ℕ
 target_in places = target_of (get bytes_eq places.variables) (get bytes_eq places.functions) places.count
 
 abbrev pub targets_in : Places → Scoped → List ℕ
-targets_in places = targets_of (get bytes_eq places.variables) (get bytes_eq places.functions) places.count
+targets_in places = node_targets (get bytes_eq places.variables) (get bytes_eq places.functions) places.count
 
 -- the nodes of functions are numbers that the code can hold
 abbrev pub Fit : Places → Type 0

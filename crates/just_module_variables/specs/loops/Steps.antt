@@ -35,12 +35,12 @@ target_of variable function count hidden (Names name) = if hidden name then [] e
 target_of variable function count hidden (Calls name arguments) = option_to_list (option_map (λ place. count + place) (function name))
 
 -- the nodes that an expression leads to, in the order of its calls and variables
-abbrev pub targets_of : (Text → Option ℕ) → (Text → Option ℕ) → ℕ → Scoped → List ℕ
-targets_of variable function count s = flat_map (target_of variable function count s.hidden) (mentions s.expression)
+abbrev pub node_targets : (Text → Option ℕ) → (Text → Option ℕ) → ℕ → Scoped → List ℕ
+node_targets variable function count s = flat_map (target_of variable function count s.hidden) (mentions s.expression)
 
 -- the names of variables at places
-abbrev pub names_of : Known → List ℕ → List Text
-names_of m = map (name_at (variables_of m))
+abbrev pub variable_names_at : Known → List ℕ → List Text
+variable_names_at m = map (name_at (variables_of m))
 
 -- the rows of a graph as lists
 abbrev pub rows_of : List (Vec ℕ Global) → List (List ℕ)
@@ -52,14 +52,14 @@ pub record AreNodeRows (m : Known) (rows : List (List ℕ)) : Type 0 where
   pub function : Text → Option ℕ
   pub variables : IsIndex (variables_of m) variable
   pub functions : IsIndex (functions_of m) function
-  pub are : rows ≡ map (targets_of variable function (length m.assignments)) (nodes_of m)
+  pub are : rows ≡ map (node_targets variable function (length m.assignments)) (nodes_of m)
 
 -- a circle of variables, by their places
 pub record IsCircleAt (m : Known) (places : List ℕ) : Type 0 where
   pub inside : All (λ place. place < length m.assignments) places
-  pub circle : IsCircleOf m (name_at (variables_of m) (slice_index places 0)) (names_of m places)
+  pub circle : IsCircleOf m (name_at (variables_of m) (slice_index places 0)) (variable_names_at m places)
 
 -- an evaluation order of variables, by their places
 pub record IsOrderAt (m : Known) (places : List ℕ) : Type 0 where
   pub inside : All (λ place. place < length m.assignments) places
-  pub order : IsEvaluationOrder m (names_of m places)
+  pub order : IsEvaluationOrder m (variable_names_at m places)

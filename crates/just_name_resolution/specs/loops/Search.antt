@@ -121,8 +121,8 @@ pub record IsDone (m : Known) (f : Found) (s : Scoped) : Type 0 where
   pub functions : (name : Text) (d : FunctionDefinition) → SaysCall m (mentions s.expression) name d → f.function name ≡ true
 
 -- it waits, or is looked into
-abbrev pub IsCovered : Known → Found → Scoped → Type 0
-IsCovered m f s = Contains f.waiting s ⊎ IsDone m f s
+abbrev pub WaitsOrIsSearched : Known → Found → Scoped → Type 0
+WaitsOrIsSearched m f s = Contains f.waiting s ⊎ IsDone m f s
 
 -- A variable that one of some expressions reads, each in its scope.
 pub record IsReadFrom (m : Known) (firsts : List Scoped) (name : Text) : Type 0 where
@@ -137,7 +137,7 @@ pub record IsCalledIn (m : Known) (overridden : Number → Bool) (firsts : List 
   pub called : IsCalledFrom m overridden from.hidden from.expression name
 
 -- A search from some expressions, with numbers and functions that were there before it.
-pub record Searches (m : Known) (overridden : Number → Bool) (firsts : List Scoped) (old : Number → Bool) (visited : Text → Bool) (f : Found) : Type 0 where
+pub record IsSearchFrom (m : Known) (overridden : Number → Bool) (firsts : List Scoped) (old : Number → Bool) (visited : Text → Bool) (f : Found) : Type 0 where
   pub keeps : (n : Number) → old n ≡ true → f.number n ≡ true
   pub only : (n : Number) → f.number n ≡ true → (old n ≡ true) ⊎ IsNumberIn m (Needs m (overridden_by overridden m) (IsReadFrom m firsts)) n
   pub keeps_functions : (name : Text) → visited name ≡ true → f.function name ≡ true
@@ -148,9 +148,9 @@ pub record Searches (m : Known) (overridden : Number → Bool) (firsts : List Sc
   pub needed : (s : Scoped) → Contains f.waiting s → (name : Text) → Reads m s.hidden s.expression name
       → Needs m (overridden_by overridden m) (IsReadFrom m firsts) name
   -- where it starts, each function that it found, and each variable that it found and that is not overridden, are looked into or wait
-  pub start : (s : Scoped) → Contains firsts s → IsCovered m f s
+  pub start : (s : Scoped) → Contains firsts s → WaitsOrIsSearched m f s
   pub bodies : (name : Text) (d : FunctionDefinition) → find name m.functions ≡ Some d → f.function name ≡ true
-      → (visited name ≡ true) ⊎ IsCovered m f (body_scoped d)
+      → (visited name ≡ true) ⊎ WaitsOrIsSearched m f (body_scoped d)
   pub values :
       HaveNumbersApart m → (name : Text) (a : Assignment) → find name m.assignments ≡ Some a → overridden a.number ≡ false → f.number a.number ≡ true
-      → (old a.number ≡ true) ⊎ IsCovered m f (value_scoped a)
+      → (old a.number ≡ true) ⊎ WaitsOrIsSearched m f (value_scoped a)

@@ -3,7 +3,7 @@ use Rattle.std.specs.Prelude.{IfNone}
 use Rattle.std.specs.List.{Contains}
 use Rattle.std.specs.Map.{keys_of}
 use Rattle.std.proofs.lemmas.List.Elements.{All-contains}
-use Rattle.just_bench_bundle.specs.Places.{StandsIn}
+use Rattle.just_bench_bundle.specs.Places.{LinkStandsIn}
 use Rattle.just_bench_bundle.specs.loops.Places.{FindsIn}
 use Rattle.just_bench_bundle.proofs.Walking.{is_key}
 use Rattle.just_bench_syntax.specs.Answers.{answers}
@@ -24,4 +24,4 @@ returns-in-None c = λ clean it is.
     let none = subst (FindsIn w c.in-Some.path.now (To c.args.import.now)) c.in-None.is c.in_ok-line.ensures in
     let same : c.in-Some.path.now ≡ c.args.current.now = c.in-Some.ensures.same in
     let key = is_key w c.args.current.now is.1.one.0 is.1.one.1 in
-    none (subst IsClean (sym same) (All-contains IsClean (keys_of c.args.sources.now) c.args.current.now clean key)) it.line (subst (λ x. StandsIn w x (To c.args.import.now) it.line) (sym same) is.1)
+    none (subst IsClean (sym same) (All-contains IsClean (keys_of c.args.sources.now) c.args.current.now clean key)) it.line (subst (λ x. LinkStandsIn w x (To c.args.import.now) it.line) (sym same) is.1)

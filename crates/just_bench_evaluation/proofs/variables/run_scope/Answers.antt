@@ -4,7 +4,7 @@ use Rattle.std.specs.Option.{option_map}
 use Rattle.just_names.specs.declared.number.Number.{Number}
 use Rattle.just_parts.specs.Evaluator.{Binds, FaultsAt, wanted_by}
 use Rattle.just_parts.specs.Needs.{same_number}
-use Rattle.just_run_layers.specs.Evaluation.{contents_of, set_of}
+use Rattle.just_run_layers.specs.Evaluation.{context_contents_of, set_of}
 use Rattle.just_bench_values.specs.Constants.{constants_of, scope_along, scope_of}
 use Rattle.just_bench_values.proofs.Told.{faults_on}
 use Rattle.just_bench_evaluation.specs.Answered.{run_scope}
@@ -28,5 +28,5 @@ returns-in-Err-clause-gives c =
     let x = c.args.context.now in
     let fault = subst (λ (asked : Number → Bool). FaultsAt (constants_of (wanted_by x.assignments.now x.functions.now (get same_number x.overrides.now) asked x.settings.now.lists)) c.in-Err.error)
     c.numbers_of.ensures (c.in-Err.ensures.refused x.settings.now.lists) in
-    gives_error (run_scope (contents_of x) (set_of c.args.set)) c.in-Err.error c.refusal_of.result
+    gives_error (run_scope (context_contents_of x) (set_of c.args.set)) c.in-Err.error c.refusal_of.result
     (faults_on (λ none. ap (option_map (scope_along x.assignments.now x.evaluation_order.now)) none) c.in-Err.error fault) c.refusal_of.ensures

@@ -2,7 +2,7 @@ use Rattle.std.proofs.Common.{◌≡◌, ◌+◌, ◌≤◌, length, map, take, 
 use Rattle.std.specs.List.{All}
 use Rattle.just_parts.specs.Bare.{bare_item}
 use Rattle.just_parts.specs.Syntax.{ItemCameBy, numbers_of_items}
-use Rattle.just_bench_syntax.specs.Numbering.{counted}
+use Rattle.just_bench_syntax.specs.Numbering.{numbers_counted}
 use Rattle.just_bench_syntax.specs.loops.Numbering.{AreNumberedInTurn}
 use Rattle.just_bench_syntax.proofs.item_numbers.number_items.Given as goal
 
@@ -13,6 +13,6 @@ invariant-loop-place l = record {
   left : All (λ i. bare_item i ≡ i) (drop l.place l.items.items);
   source : All (ItemCameBy l.source) (take l.place l.items.items);
   numbered : AreNumberedInTurn l.initial.numerator (numbers_of_items (take l.place l.items.items)) l.numerator;
-  spent : l.numerator + counted (drop l.place l.items.items) ≡ l.initial.numerator + counted l.initial.items.items;
+  spent : l.numerator + numbers_counted (drop l.place l.items.items) ≡ l.initial.numerator + numbers_counted l.initial.items.items;
   onward : l.initial.numerator ≤ l.numerator;
 }

@@ -8,9 +8,9 @@ use Rattle.just_names.specs.declared.name.Name.{Name}
 use Rattle.just_parts.specs.Evaluator.{FaultsAt, functions_by_name, wanted_by}
 use Rattle.just_parts.specs.Needs.{same_number}
 use Rattle.just_table.specs.Entries.{find, put, put_all}
-use Rattle.just_bench_values.specs.Constants.{assigned_value, constants_by, overridden_or, step}
+use Rattle.just_bench_values.specs.Constants.{assigned_value, constants_by, overridden_or, evaluated_again}
 use Rattle.just_bench_values.specs.Lookup.{constant_name, table_values}
-use Rattle.just_bench_values.specs.Values.{value_of}
+use Rattle.just_bench_values.specs.Values.{value_among_constants}
 use Rattle.just_bench_values.specs.declared.lookup.Constant.{Constant}
 use Rattle.just_bench_values.proofs.Steps.{assigned_is, needed_is}
 use Rattle.just_bench_values.proofs.Told.{faults_on, told_err}
@@ -32,7 +32,7 @@ returns-in_err-value-clause-refused c =
     (λ e same. faults_on (λ none. ap (λ b. if b then assigned_value wanted values name else Some [])
     (needed_is c.args.assignments.now c.args.functions.now overrides set false name a found ∙ there)
     ∙ assigned_is c.args.assignments.now c.args.functions.now overrides set false values name a found ∙ none) e
-    (subst (FaultsAt (overridden_or (overrides a.number) (value_of (functions_by_name c.args.functions.now) values a.value))) (sym same) c.in_err-value.ensures.0)) (search rules)
+    (subst (FaultsAt (overridden_or (overrides a.number) (value_among_constants (functions_by_name c.args.functions.now) values a.value))) (sym same) c.in_err-value.ensures.0)) (search rules)
 
 pub returns-in_err-value-clause-told : goal.returns-in_err-value-clause-told
 returns-in_err-value-clause-told c =
@@ -70,7 +70,7 @@ returns-clause-put c =
     let found : find name c.args.assignments.now ≡ Some a = search rules in
     let there : set a.number ≡ true = search rules in
     let wanted = wanted_by c.args.assignments.now c.args.functions.now overrides set false in
-    let stepped : step wanted values name ≡ Some c.in_ok-value.value =
+    let stepped : evaluated_again wanted values name ≡ Some c.in_ok-value.value =
     ap (λ b. if b then assigned_value wanted values name else None) (needed_is c.args.assignments.now c.args.functions.now overrides set false name a found ∙ there)
     ∙ assigned_is c.args.assignments.now c.args.functions.now overrides set false values name a found ∙ c.in_ok-value.ensures in
     let constant : Name → Constant = λ n. record { binding = record { name = n; number = a.number; value = c.in_ok-value.value; export = a.export; private = a.private } } in

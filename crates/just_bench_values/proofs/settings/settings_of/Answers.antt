@@ -6,7 +6,7 @@ use Rattle.std.proofs.lemmas.Result.{IfErr-weaker}
 use Rattle.just_parts.specs.Evaluator.{FaultsAt, functions_by_name, set_expressions, scope_values}
 use Rattle.just_ast_definitions.specs.declared.setting.Set.{Set}
 use Rattle.just_bench_values.specs.Settings.{plain_settings, setting_with, settings_with}
-use Rattle.just_bench_values.specs.Values.{none_bound, value_of}
+use Rattle.just_bench_values.specs.Values.{none_bound, value_among_constants}
 use Rattle.just_bench_values.proofs.BareSets.{bare_sets}
 use Rattle.just_bench_values.proofs.Called.{bare_with}
 use Rattle.just_bench_values.proofs.Programs.{made_has}
@@ -17,14 +17,14 @@ use Rattle.just_bench_values.proofs.settings.settings_of.Goals as goal
 
 pub loop-one-init : goal.loop-one-init
 loop-one-init c =
-    let value = value_of (functions_by_name c.args.functions.now) (scope_values c.args.constants.now) in
+    let value = value_among_constants (functions_by_name c.args.functions.now) (scope_values c.args.constants.now) in
     ap (settings_with value c.args.sets.now) c.in_ok-settings.ensures
 
 pub returns-in_err-set-clause-refused : goal.returns-in_err-set-clause-refused
 returns-in_err-set-clause-refused c =
     let functions = functions_by_name c.args.functions.now in
     let constants = scope_values c.args.constants.now in
-    let value = value_of functions constants in
+    let value = value_among_constants functions constants in
     let sets = c.args.sets.now in
     let i = c.loop-one.one-index in
     IfErr-weaker c.from_residual-in_err-set.result (λ e. e ≡ c.in_err-set.field-0.0) _
@@ -45,7 +45,7 @@ pub returns-clause-settings : goal.returns-clause-settings
 returns-clause-settings c =
     let functions = functions_by_name c.args.functions.now in
     let constants = scope_values c.args.constants.now in
-    let value = value_of functions constants in
+    let value = value_among_constants functions constants in
     bare_sets value (bare_with 64 functions constants none_bound) c.args.sets.now plain_settings
     ∙ sym c.loop-one.invariant
     ∙ ap (λ xs. settings_with value xs c.loop-one.settings) (drop_all c.loop-one.one-index c.args.sets.now (omega arith))
@@ -54,6 +54,6 @@ pub returns-clause-programs : goal.returns-clause-programs
 returns-clause-programs c =
     let functions = functions_by_name c.args.functions.now in
     let constants = scope_values c.args.constants.now in
-    let value = value_of functions constants in
+    let value = value_among_constants functions constants in
     made_has value c.args.sets.now c.loop-one.settings
     (sym c.loop-one.invariant ∙ ap (λ xs. settings_with value xs c.loop-one.settings) (drop_all c.loop-one.one-index c.args.sets.now (omega arith)))

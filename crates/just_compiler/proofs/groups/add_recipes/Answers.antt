@@ -12,7 +12,7 @@ use Rattle.just_module_contents.specs.Kept.{kept_recipes}
 use Rattle.just_module_contents.specs.Named.{recipes_by}
 use Rattle.just_module_variables.specs.Constants.{evaluated_in}
 use Rattle.just_parts.specs.Layers.{given_by, layers_at}
-use Rattle.just_module_aliases.specs.Aliased.{Targets, UnknownTargets, aliases_of, targets}
+use Rattle.just_module_aliases.specs.Aliased.{Targets, UnknownTargets, aliases_of, alias_targets}
 use Rattle.just_module_recipes.specs.loops.Broken.{BreaksRecipes, in_aliases}
 use Rattle.just_module_recipes.specs.Links.{of_defaults, of_targets}
 use Rattle.just_compiler.proofs.groups.add_recipes.Goals as goal
@@ -38,8 +38,8 @@ returns-in_err-aliases-clause-named g c =
     let it = around_by c.args.around.now c.args.recipes in
     let disabled = c.in_ok-linked.linked.disabled in
     let known = aliases_in c.args.checked.now.definitions in
-    let t = targets it.absent disabled it.modules (recipe_table standing) in
-    let same : targets it.absent disabled c.as_slice.result.now c.in_ok-keys.keys ≡ t = (λ i. targets it.absent disabled (c.as_slice.ensures i) (c.in_ok-keys.ensures i)) in
+    let t = alias_targets it.absent disabled it.modules (recipe_table standing) in
+    let same : alias_targets it.absent disabled c.as_slice.result.now c.in_ok-keys.keys ≡ t = (λ i. alias_targets it.absent disabled (c.as_slice.ensures i) (c.in_ok-keys.ensures i)) in
     let named : Reports (UnknownTargets t known) c.in_err-aliases.field-0.0 = subst (λ (x : Targets). Reports (UnknownTargets x known) c.in_err-aliases.field-0.0) same c.in_err-aliases.ensures.named in
     IfErr-weaker c.from_residual-in_err-aliases.result (Reports (UnknownTargets t known)) _
     (λ e h. reports_by (UnknownTargets t known) (BreaksRecipes _ _ _ _ _)
@@ -53,7 +53,7 @@ returns-clause-kept g c =
     let it = around_by c.args.around.now c.args.recipes in
     let disabled = c.in_ok-linked.linked.disabled in
     let known = aliases_in c.args.checked.now.definitions in
-    let same : targets it.absent disabled c.as_slice.result.now c.in_ok-keys.keys ≡ targets it.absent disabled it.modules (recipe_table standing) = (λ i. targets it.absent disabled (c.as_slice.ensures i) (c.in_ok-keys.ensures i)) in
+    let same : alias_targets it.absent disabled c.as_slice.result.now c.in_ok-keys.keys ≡ alias_targets it.absent disabled it.modules (recipe_table standing) = (λ i. alias_targets it.absent disabled (c.as_slice.ensures i) (c.in_ok-keys.ensures i)) in
     let layers = layers_at (given_by g.S.Syntax.answers g.E.ConstantEvaluation.answers c.args.given.now) c.args.ast.now.module_path in
     all_recipes_kept layers (evaluated_in c.args.checked.now.constants) (contents_in c.args.checked.now.definitions) standing it
     c.in_ok-linked.ensures.bodies c.in_ok-linked.ensures.kept c.in_ok-linked.ensures.linked.stand c.in_ok-linked.ensures.own c.in_ok-default.ensures.kept
@@ -62,7 +62,7 @@ returns-clause-kept g c =
 
 pub returns-clause-aliases : goal.returns-clause-aliases
 returns-clause-aliases g c =
-    c.in_ok-aliases.ensures.aliases ∙ ap (λ ms. aliases_of (targets c.args.around.now.notes.absent_modules c.in_ok-linked.linked.disabled ms c.in_ok-keys.keys) (aliases_in c.args.checked.now.definitions)) c.as_slice.ensures
+    c.in_ok-aliases.ensures.aliases ∙ ap (λ ms. aliases_of (alias_targets c.args.around.now.notes.absent_modules c.in_ok-linked.linked.disabled ms c.in_ok-keys.keys) (aliases_in c.args.checked.now.definitions)) c.as_slice.ensures
 
 pub returns-clause-default : goal.returns-clause-default
 returns-clause-default g c =

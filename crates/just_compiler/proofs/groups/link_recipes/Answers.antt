@@ -19,7 +19,7 @@ use Rattle.just_module_contents.specs.Standing.{InStanding}
 use Rattle.just_module_contents.proofs.Keeping.{kept_all, kept_different, kept_number, kept_once}
 use Rattle.just_module_recipes.specs.loops.Broken.{BreaksRecipes, in_bodies}
 use Rattle.just_module_recipes.specs.Completed.{TellsLinks}
-use Rattle.just_module_recipes.specs.Links.{BreaksLinks, Stands, around}
+use Rattle.just_module_recipes.specs.Links.{BreaksLinks, Stands, around_recipes}
 use Rattle.just_names.specs.Index.{AreDifferent}
 use Rattle.just_parts.specs.Evaluator.{scope_values}
 use Rattle.just_parts.specs.Layers.{given_by, layers_at}
@@ -60,8 +60,8 @@ pub returns-clause-kept : goal.returns-clause-kept
 returns-clause-kept g c =
     let checked = c.args.checked.now in
     let lists = checked.constants.settings.lists in
-    let lent = around c.args.around.now.notes.absent_modules c.as_slice.result.now c.args.recipes in
-    let same : lent ≡ around_by c.args.around.now c.args.recipes = ap (λ ms. around c.args.around.now.notes.absent_modules ms c.args.recipes) c.as_slice.ensures in
+    let lent = around_recipes c.args.around.now.notes.absent_modules c.as_slice.result.now c.args.recipes in
+    let same : lent ≡ around_by c.args.around.now c.args.recipes = ap (λ ms. around_recipes c.args.around.now.notes.absent_modules ms c.args.recipes) c.as_slice.ensures in
     subst₂ (λ rs x. IfOk c.resolve_kept.result (λ _. Keeps (BreaksLinks lists rs x))) c.in_ok-kept.ensures same c.resolve_kept.ensures.kept
 
 pub returns-clause-own : goal.returns-clause-own
@@ -74,9 +74,9 @@ returns-clause-own g c =
     let settings = checked.constants.settings in
     let here = rule_here answers evaluator m checked.variables c.requires.variables values settings in
     let said = rule_said answers evaluator m checked.variables c.requires.variables values settings in
-    let lent = around c.args.around.now.notes.absent_modules c.as_slice.result.now c.args.recipes in
+    let lent = around_recipes c.args.around.now.notes.absent_modules c.as_slice.result.now c.args.recipes in
     let it = around_by c.args.around.now c.args.recipes in
-    let same : lent ≡ it = ap (λ ms. around c.args.around.now.notes.absent_modules ms c.args.recipes) c.as_slice.ensures in
+    let same : lent ≡ it = ap (λ ms. around_recipes c.args.around.now.notes.absent_modules ms c.args.recipes) c.as_slice.ensures in
     let own : IfOk c.resolve_kept.result (λ _. Keeps (InStanding (Stands (kept_recipes (recipes_in checked.definitions)) it) here (kept_recipes (recipes_in checked.definitions)))) =
     subst₂ (λ rs x. IfOk c.resolve_kept.result (λ _. Keeps (InStanding (Stands rs x) here rs))) c.in_ok-kept.ensures same c.resolve_kept.ensures.own in
     IfOk-weaker c.resolve_kept.result _ _ (λ made kept e b. kept e (standing_so said here (rule_back answers evaluator m checked.variables c.requires.variables values settings) e b)) own
@@ -93,8 +93,8 @@ returns-clause-named g c =
     let recipes = kept_recipes (recipes_in checked.definitions) in
     let it = around_by c.args.around.now c.args.recipes in
     let absent = c.args.around.now.notes.absent_modules in
-    let lent = around absent c.as_slice.result.now c.args.recipes in
-    let same : lent ≡ it = ap (λ ms. around absent ms c.args.recipes) c.as_slice.ensures in
+    let lent = around_recipes absent c.as_slice.result.now c.args.recipes in
+    let same : lent ≡ it = ap (λ ms. around_recipes absent ms c.args.recipes) c.as_slice.ensures in
     let tells : Recipe UnresolvedDependency → Cause → Type 0 = λ r x. here r x ⊎ IsPastLimits value r x in
     let told : IfErr c.resolve_kept.result (Reports (TellsLinks settings.lists tells recipes it)) =
     subst₂ (λ rs x. IfErr c.resolve_kept.result (Reports (TellsLinks settings.lists tells rs x))) c.in_ok-kept.ensures same c.resolve_kept.ensures.named in
@@ -111,8 +111,8 @@ returns-clause-linked g c =
     let m = contents_in checked.definitions in
     let settings = checked.constants.settings in
     let rs = kept_recipes (recipes_in checked.definitions) in
-    let lent = around c.args.around.now.notes.absent_modules c.as_slice.result.now c.args.recipes in
-    let same : lent ≡ around_by c.args.around.now c.args.recipes = ap (λ ms. around c.args.around.now.notes.absent_modules ms c.args.recipes) c.as_slice.ensures in
+    let lent = around_recipes c.args.around.now.notes.absent_modules c.as_slice.result.now c.args.recipes in
+    let same : lent ≡ around_by c.args.around.now c.args.recipes = ap (λ ms. around_recipes c.args.around.now.notes.absent_modules ms c.args.recipes) c.as_slice.ensures in
     let numbers = told_numbers checked.variables.numbers checked.variables.assignments c.requires.numbers in
     let value = value_same answers evaluator m checked.variables c.requires.variables values settings in
     let needs = (completion_here answers evaluator checked).Needs in

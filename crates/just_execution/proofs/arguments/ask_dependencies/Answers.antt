@@ -10,7 +10,7 @@ use Rattle.just_execution.specs.loops.Arguments.{AreReadableGroups, IsGivenIn}
 use Rattle.just_execution.specs.loops.Frames.{items_of_frames}
 use Rattle.just_execution.specs.TaskInteractions.{surrounded}
 use Rattle.just_run_layers.specs.loops.Interactions.{AsksAlone}
-use Rattle.just_tasks.specs.Scene.{contents_of}
+use Rattle.just_tasks.specs.Scene.{scope_contents_of}
 use Rattle.just_tasks.specs.declared.task.Task.{Task}
 use Rattle.just_execution.proofs.Gathered.{Continues, gathered-all, gathered-next, gathered-out, gathered-start, gathered-stop}
 use Rattle.just_execution.proofs.Asked.{dependency-failed, dependency-given}
@@ -18,7 +18,7 @@ use Rattle.just_execution.proofs.arguments.ask_dependencies.Goals as goal
 
 pub loop-dependency-init : goal.loop-dependency-init
 loop-dependency-init g c =
-    let step = dependency_steps c.args.recipes.now (surrounded (contents_of c.args.home.now) c.args.task.now c.args.held.now) in
+    let step = dependency_steps c.args.recipes.now (surrounded (scope_contents_of c.args.home.now) c.args.task.now c.args.held.now) in
     let none : c.new-tasks.result.items ≡ [] = search rules in
     record {
       keeps = keeps-self (g.E.Evaluation.promised c.args.evaluation.now);
@@ -35,7 +35,7 @@ push_tasks-requires g c = subst (λ (d : Dependency). Contains (numbers c.args.r
 
 pub loop-dependency-preserved : goal.loop-dependency-preserved
 loop-dependency-preserved g c =
-    let s = surrounded (contents_of c.args.home.now) c.args.task.now c.args.held.now in
+    let s = surrounded (scope_contents_of c.args.home.now) c.args.task.now c.args.held.now in
     let rs = c.args.recipes.now in
     let x = c.dependency-item.result in
     let e = g.E.Evaluation.promised c.args.evaluation.now in
@@ -58,7 +58,7 @@ returns-in_err-push_tasks-clause-keeps g c = keeps-then _ _ _ c.loop-dependency.
 
 pub returns-in_err-groups-clause-took : goal.returns-in_err-groups-clause-took
 returns-in_err-groups-clause-took g c =
-    let s = surrounded (contents_of c.args.home.now) c.args.task.now c.args.held.now in
+    let s = surrounded (scope_contents_of c.args.home.now) c.args.task.now c.args.held.now in
     let rs = c.args.recipes.now in
     let x = c.dependency-item.result in
     let e = g.E.Evaluation.promised c.args.evaluation.now in
@@ -70,7 +70,7 @@ returns-in_err-groups-clause-took g c =
 
 pub returns-in_err-push_tasks-clause-took : goal.returns-in_err-push_tasks-clause-took
 returns-in_err-push_tasks-clause-took g c =
-    let s = surrounded (contents_of c.args.home.now) c.args.task.now c.args.held.now in
+    let s = surrounded (scope_contents_of c.args.home.now) c.args.task.now c.args.held.now in
     let rs = c.args.recipes.now in
     let x = c.dependency-item.result in
     let e = g.E.Evaluation.promised c.args.evaluation.now in
@@ -83,6 +83,6 @@ returns-in_err-push_tasks-clause-took g c =
 
 pub returns-clause-took : goal.returns-clause-took
 returns-clause-took g c =
-    let s = surrounded (contents_of c.args.home.now) c.args.task.now c.args.held.now in
+    let s = surrounded (scope_contents_of c.args.home.now) c.args.task.now c.args.held.now in
     gathered-all (dependency_steps c.args.recipes.now s) c.args.dependencies.now (g.E.Evaluation.promised c.args.evaluation.now) (g.E.Evaluation.requests c.args.evaluation.now) (g.E.Evaluation.promised c.loop-dependency.evaluation)
     (g.E.Evaluation.requests c.loop-dependency.evaluation) c.loop-dependency.tasks.items c.loop-dependency.dependency-index (omega arith) c.loop-dependency.invariant.rest

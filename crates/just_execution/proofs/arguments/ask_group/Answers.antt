@@ -4,7 +4,7 @@ use Rattle.just_names.specs.Texts.{Text}
 use Rattle.just_run_layers.specs.Covering.{module_of}
 use Rattle.just_run_layers.specs.Evaluation.{surroundings}
 use Rattle.just_run_layers.proofs.InteractionLemmas.{exited, keeps-self, keeps-then}
-use Rattle.just_execution.specs.Arguments.{argument_steps, texts_steps}
+use Rattle.just_execution.specs.Arguments.{argument_steps, argument_texts_steps}
 use Rattle.just_execution.specs.loops.Arguments.{IsReadableArgument}
 use Rattle.just_run_layers.specs.loops.Interactions.{AsksAlone}
 use Rattle.just_execution.proofs.Gathered.{Continues, gathered-all, gathered-next, gathered-out, gathered-start, gathered-stop}
@@ -49,7 +49,7 @@ returns-in_err-more-clause-took g c =
     let e = g.E.Evaluation.promised c.args.evaluation.now in
     let before = g.E.Evaluation.requests c.args.evaluation.now in
     let d = g.E.Evaluation.promised c.loop-argument.evaluation in
-    subst (AsksAlone e (texts_steps (surroundings c.args.context.now c.args.scope.now c.args.is_dependency []) c.args.arguments.now) before _) (sym (exited c.from_residual.result c.in_err-more.field-0.0 (search rules)))
+    subst (AsksAlone e (argument_texts_steps (surroundings c.args.context.now c.args.scope.now c.args.is_dependency []) c.args.arguments.now) before _) (sym (exited c.from_residual.result c.in_err-more.field-0.0 (search rules)))
     (gathered-stop step c.args.arguments.now e before d _ _ c.loop-argument.texts c.loop-argument.argument-index c.argument-item.result c.loop-argument-test.true c.argument-item.is c.loop-argument.invariant.rest
     c.in_err-more.field-0.0 c.in_err-more.ensures.took)
 
@@ -60,7 +60,7 @@ returns-in_err-append-clause-took g c =
     let before = g.E.Evaluation.requests c.args.evaluation.now in
     let d = g.E.Evaluation.promised c.loop-argument.evaluation in
     let o = g.E.Evaluation.promised c.ask_argument.new.evaluation in
-    subst (AsksAlone e (texts_steps (surroundings c.args.context.now c.args.scope.now c.args.is_dependency []) c.args.arguments.now) before _) (sym (exited c.from_residual-in_err-append.result Memory (search rules)))
+    subst (AsksAlone e (argument_texts_steps (surroundings c.args.context.now c.args.scope.now c.args.is_dependency []) c.args.arguments.now) before _) (sym (exited c.from_residual-in_err-append.result Memory (search rules)))
     (gathered-out step c.args.arguments.now e before d _ _ c.loop-argument.texts c.loop-argument.argument-index c.argument-item.result c.loop-argument-test.true c.argument-item.is c.loop-argument.invariant.rest o
     c.in_ok-more.ensures.keeps c.in_ok-more.more c.in_ok-more.ensures.took)
 

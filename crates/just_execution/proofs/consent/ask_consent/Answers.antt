@@ -14,7 +14,7 @@ use Rattle.just_recipe_body.specs.Confirmation.{confirm_steps}
 use Rattle.just_recipe_body.proofs.AllLemmas.{all-left}
 use Rattle.just_recipe_body.proofs.StepEnds.{took-exit}
 use Rattle.just_execution.specs.TaskInteractions.{consent_by, consented}
-use Rattle.just_tasks.specs.Scene.{contents_of}
+use Rattle.just_tasks.specs.Scene.{scope_contents_of}
 use Rattle.just_execution.proofs.Covered.{body-covered}
 use Rattle.just_execution.proofs.consent.ask_consent.Goals as goal
 
@@ -33,7 +33,7 @@ confirm-requires g c =
 pub returns-in_err-confirm-clause-took : goal.returns-in_err-confirm-clause-took
 returns-in_err-confirm-clause-took g c =
     let p : Question → Option Answer = both (g.E.Evaluation.promised c.args.evaluation.now) (g.H.Host.promised c.args.host.now) in
-    let b : BodyContents = consent_by (g.S.Syntax.answers c.args.syntax.now) c.args.task.now c.args.recipe.now (contents_of c.args.home.now) c.args.held.now in
+    let b : BodyContents = consent_by (g.S.Syntax.answers c.args.syntax.now) c.args.task.now c.args.recipe.now (scope_contents_of c.args.home.now) c.args.held.now in
     let r : Result (Unit {0}) Halt = c.from_residual.result in
     asked p b _ _ r c.if-home.false (took-exit p (confirm_steps b) (consented (body_name b)) _ _ c.in_err-confirm.field-0.0 r c.from_residual.ensures.1 c.in_err-confirm.ensures.took)
 
@@ -41,7 +41,7 @@ pub returns-then-branch-clause-took : goal.returns-then-branch-clause-took
 returns-then-branch-clause-took g c =
     let p : Question → Option Answer = both (g.E.Evaluation.promised c.args.evaluation.now) (g.H.Host.promised c.args.host.now) in
     let q : Question → Option Answer = both (g.E.Evaluation.promised c.confirm.new.evaluation) (g.H.Host.promised c.confirm.new.host) in
-    let b : BodyContents = consent_by (g.S.Syntax.answers c.args.syntax.now) c.args.task.now c.args.recipe.now (contents_of c.args.home.now) c.args.held.now in
+    let b : BodyContents = consent_by (g.S.Syntax.answers c.args.syntax.now) c.args.task.now c.args.recipe.now (scope_contents_of c.args.home.now) c.args.held.now in
     asked p b _ _ (Ok tt) c.if-home.false
     (took-then p q (keeps-both _ _ _ _ c.in_ok-confirm.ensures.keeps c.in_ok-confirm.ensures.keeps_host) (confirm_steps b) (consented (body_name b)) _ _ _ true (Ok tt)
     (rw c.if-branch.true at c.in_ok-confirm.ensures.took) (took-give q _ tt))
@@ -50,7 +50,7 @@ pub returns-clause-took : goal.returns-clause-took
 returns-clause-took g c =
     let p : Question → Option Answer = both (g.E.Evaluation.promised c.args.evaluation.now) (g.H.Host.promised c.args.host.now) in
     let q : Question → Option Answer = both (g.E.Evaluation.promised c.confirm.new.evaluation) (g.H.Host.promised c.confirm.new.host) in
-    let b : BodyContents = consent_by (g.S.Syntax.answers c.args.syntax.now) c.args.task.now c.args.recipe.now (contents_of c.args.home.now) c.args.held.now in
+    let b : BodyContents = consent_by (g.S.Syntax.answers c.args.syntax.now) c.args.task.now c.args.recipe.now (scope_contents_of c.args.home.now) c.args.held.now in
     let old : Log = log_of (g.H.Host.entries c.args.host.now) (g.E.Evaluation.requests c.args.evaluation.now) in
     let new : Log = log_of (g.H.Host.entries c.confirm.new.host) (g.E.Evaluation.requests c.confirm.new.evaluation) in
     let named : c.new.result ≡ body_name b = c.new.ensures ∙ c.lexeme.ensures in

@@ -6,7 +6,7 @@ use Rattle.just_execution.specs.declared.frame.Frame.TheVariants.{Call, Block}
 use Rattle.just_execution.specs.loops.Frames.{state_of, weight}
 use Rattle.just_execution.specs.loops.Homes.{IsCallable, IsServed}
 use Rattle.just_execution.specs.TaskInteractions.{interactions_of}
-use Rattle.just_execution.specs.loops.TaskInteractions.{prepared}
+use Rattle.just_execution.specs.loops.TaskInteractions.{prepared_as}
 use Rattle.just_execution.specs.Walking.{Prepared}
 use Rattle.just_tasks.specs.Scene.{scene_in}
 use Rattle.just_execution.proofs.RunStates.{called-sound, counted-sound, pushed-calls}
@@ -55,7 +55,7 @@ returns-in_err-push-clause-goes g c =
     let lower = leaves-lower (scene_in (g.S.Syntax.answers c.args.scopes.now.syntax.now) c.args.scopes.now c.args.recipes.now) (running-ordered c.args.scopes.now.no_dependencies c.args.recipes.now c.requires.ordered) in
     goes-err p _ _ old _ _ c.from_residual-in_err-push.result (search rules)
     (halted-took (interactions_of (scene_in (g.S.Syntax.answers c.args.scopes.now.syntax.now) c.args.scopes.now c.args.recipes.now)) lower p c.args.run.now.frames.items c.args.task (state_of c.args.run.now) c.count_call.new.calls.items
-    (search rules) (search rules) (sym c.contains.ensures ∙ c.if-contains.false) (prepared c.in_ok-held.field-0) old _ c.in_ok-held.ensures.took)
+    (search rules) (search rules) (sym c.contains.ensures ∙ c.if-contains.false) (prepared_as c.in_ok-held.field-0) old _ c.in_ok-held.ensures.took)
 
 pub returns-in_err-push_calls-clause-goes : goal.returns-in_err-push_calls-clause-goes
 returns-in_err-push_calls-clause-goes g c =
@@ -64,7 +64,7 @@ returns-in_err-push_calls-clause-goes g c =
     let lower = leaves-lower (scene_in (g.S.Syntax.answers c.args.scopes.now.syntax.now) c.args.scopes.now c.args.recipes.now) (running-ordered c.args.scopes.now.no_dependencies c.args.recipes.now c.requires.ordered) in
     goes-err p _ _ old _ _ c.from_residual-in_err-push_calls.result (search rules)
     (halted-took (interactions_of (scene_in (g.S.Syntax.answers c.args.scopes.now.syntax.now) c.args.scopes.now c.args.recipes.now)) lower p c.args.run.now.frames.items c.args.task (state_of c.args.run.now) c.count_call.new.calls.items
-    (search rules) (search rules) (sym c.contains.ensures ∙ c.if-contains.false) (prepared c.in_ok-held.field-0) old _ c.in_ok-held.ensures.took)
+    (search rules) (search rules) (sym c.contains.ensures ∙ c.if-contains.false) (prepared_as c.in_ok-held.field-0) old _ c.in_ok-held.ensures.took)
 
 pub returns-clause-goes : goal.returns-clause-goes
 returns-clause-goes g c = λ new r t.
@@ -72,7 +72,7 @@ returns-clause-goes g c = λ new r t.
     let p : Question → Option Answer = both (g.E.Evaluation.promised c.args.evaluation.now) (g.H.Host.promised c.args.host.now) in
     let lower = leaves-lower (scene_in (g.S.Syntax.answers c.args.scopes.now.syntax.now) c.args.scopes.now c.args.recipes.now) (running-ordered c.args.scopes.now.no_dependencies c.args.recipes.now c.requires.ordered) in
     let xs : List Frame = c.args.run.now.frames.items in
-    let x : Prepared = prepared c.in_ok-held.field-0 in
+    let x : Prepared = prepared_as c.in_ok-held.field-0 in
     let pushed : c.push.new.self.items ≡ xs ++ Block c.args.task x.held ∷ [] = search rules in
     asked-took (interactions_of (scene_in (g.S.Syntax.answers c.args.scopes.now.syntax.now) c.args.scopes.now c.args.recipes.now)) lower p xs c.args.task (state_of c.args.run.now) c.count_call.new.calls.items
     (search rules) (search rules) (sym c.contains.ensures ∙ c.if-contains.false) x c.push_calls.new.frames.items (pushed-calls _ xs (Block c.args.task x.held) x.priors _ pushed c.in_ok-push_calls.ensures) old _ new r
@@ -81,7 +81,7 @@ returns-clause-goes g c = λ new r t.
 pub returns-clause-sound : goal.returns-clause-sound
 returns-clause-sound g c =
     let rs = c.args.recipes.now in
-    let x : Prepared = prepared c.in_ok-held.field-0 in
+    let x : Prepared = prepared_as c.in_ok-held.field-0 in
     let opens = asked-callable (g.S.Syntax.answers c.args.scopes.now.syntax.now) c.args.scopes.now.modules rs c.args.task c.requires.callable c.args.scopes.now.no_dependencies c.requires.ordered (g.E.Evaluation.promised c.args.evaluation.now) (g.H.Host.promised c.args.host.now) _ _ x c.in_ok-held.ensures.took in
     let pushed : c.push.new.self.items ≡ c.args.run.now.frames.items ++ Block c.args.task x.held ∷ [] = search rules in
     called-sound (IsCallable (g.S.Syntax.answers c.args.scopes.now.syntax.now) c.args.scopes.now.modules rs) (IsServed (g.S.Syntax.answers c.args.scopes.now.syntax.now) c.args.scopes.now.modules rs) c.args.run.now _ c.args.task x.held x.priors (search rules) (pushed-calls _ _ (Block c.args.task x.held) x.priors c.push_calls.new.frames.items pushed c.in_ok-push_calls.ensures)
@@ -90,7 +90,7 @@ returns-clause-sound g c =
 pub returns-clause-lighter : goal.returns-clause-lighter
 returns-clause-lighter g c =
     let rs = c.args.recipes.now in
-    let x : Prepared = prepared c.in_ok-held.field-0 in
+    let x : Prepared = prepared_as c.in_ok-held.field-0 in
     let below = asked-below (scene_in (g.S.Syntax.answers c.args.scopes.now.syntax.now) c.args.scopes.now c.args.recipes.now) (running-ordered c.args.scopes.now.no_dependencies c.args.recipes.now c.requires.ordered) (g.E.Evaluation.promised c.args.evaluation.now) (g.H.Host.promised c.args.host.now) c.args.task _ _ x c.in_ok-held.ensures.took in
     let pushed : c.push.new.self.items ≡ c.args.run.now.frames.items ++ Block c.args.task x.held ∷ [] = search rules in
     let few : length x.priors < 2 ^ 64 = omega (arith, c.in_ok-held.field-0.priors.small) in

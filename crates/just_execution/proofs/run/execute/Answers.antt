@@ -13,7 +13,7 @@ use Rattle.just_run_layers.proofs.InteractionLemmas.{keeps-both, keeps-self, too
 use Rattle.just_recipe_body.proofs.StepEnds.{took-gone}
 use Rattle.just_recipe_run.specs.RecipeRun.{body_by, recipe_steps}
 use Rattle.just_execution.specs.TaskInteractions.{begin_steps, body_of, execute_at, execute_steps, run_in}
-use Rattle.just_tasks.specs.Scene.{ModuleContents, Scene, contents_of, scene_in}
+use Rattle.just_tasks.specs.Scene.{ModuleContents, Scene, scope_contents_of, scene_in}
 use Rattle.just_execution.proofs.Covered.{body-covered}
 use Rattle.just_tasks.proofs.Places.{All-got}
 use Rattle.just_execution.proofs.Homes.{contents-there, home-of, serves-in}
@@ -63,11 +63,11 @@ returns-clause-took g c =
     let result : Result (Unit {0}) Halt = c.run.result in
     let path : Modulepath = c.recipe_path.result.now in
     let ran : Recipe Dependency = as_run b r in
-    let same : recipe_steps (body_of answers t ran (contents_of m) held) ≡ recipe_steps (body_of answers t r (contents_of m) held) = same-run r t (contents_of m) answers held b in
+    let same : recipe_steps (body_of answers t ran (scope_contents_of m) held) ≡ recipe_steps (body_of answers t r (scope_contents_of m) held) = same-run r t (scope_contents_of m) answers held b in
     subst (λ (o : Option (Recipe Dependency)). HasTrace p (execute_at scene t held o) old new result) (sym (running-at b rs t.pair.recipe r c.recipe_at-recipe.ensures))
     (subst (λ (o : Option ModuleContents). HasTrace p (and_then (begin_steps t.pair.groups ran.recipe_path) (λ _. run_in answers t held ran o)) old new result) (sym (contents-there answers c.args.scopes.now.modules b rs r m c.module_of-home.ensures.there))
-    (subst (λ (o : Option Modulepath). HasTrace p (and_then (begin_steps t.pair.groups o) (λ _. recipe_steps (body_of answers t ran (contents_of m) held))) old new result) (sym (same-path r b ∙ c.recipe_path.ensures))
+    (subst (λ (o : Option Modulepath). HasTrace p (and_then (begin_steps t.pair.groups o) (λ _. recipe_steps (body_of answers t ran (scope_contents_of m) held))) old new result) (sym (same-path r b ∙ c.recipe_path.ensures))
     (subst (λ (s : Interaction (Unit {0})). HasTrace p (and_then (begin_steps t.pair.groups (Some path)) (λ _. s)) old new result) (sym same)
-    (took-then p q (keeps-both e e _ _ (keeps-self e) c.in_ok-begin.ensures.keeps) (begin_steps t.pair.groups (Some path)) (λ _. recipe_steps (body_of answers t r (contents_of m) held)) old mid new tt result
+    (took-then p q (keeps-both e e _ _ (keeps-self e) c.in_ok-begin.ensures.keeps) (begin_steps t.pair.groups (Some path)) (λ _. recipe_steps (body_of answers t r (scope_contents_of m) held)) old mid new tt result
     (took-called e (g.H.Host.promised c.args.host.now) (Begin path t.pair.groups) (λ answer. Return tt) Done requests _ _ mid (Ok tt) c.in_ok-begin.ensures.answers c.in_ok-begin.ensures.recorded (took-give p mid tt))
-    (subst (λ (environment : List EnvironmentPair). HasTrace q (recipe_steps (body_by answers (contents_of m).context r environment t.dependency held.positional held.scope)) mid new result) c.as_slice.ensures c.run.ensures.took)))))
+    (subst (λ (environment : List EnvironmentPair). HasTrace q (recipe_steps (body_by answers (scope_contents_of m).context r environment t.dependency held.positional held.scope)) mid new result) c.as_slice.ensures c.run.ensures.took)))))

@@ -5,7 +5,7 @@ use Rattle.just_names.specs.Name.{text_of_name}
 use Rattle.just_names.specs.Texts.{Text}
 use Rattle.just_table.specs.Entries.{find}
 use Rattle.just_justfile.specs.Walks.{module_named}
-use Rattle.just_justfile.specs.loops.Walks.{absent_in}
+use Rattle.just_justfile.specs.loops.Walks.{absent_there}
 use Rattle.just_justfile.proofs.Leading.{named_ordered}
 use Rattle.just_justfile.proofs.Walking.{entered, lost, missed, name_read}
 use Rattle.just_justfile.proofs.resolution.walk.Goals as goal
@@ -17,8 +17,8 @@ returns-then-is_absent c =
     let more : c.loop-at.at < length names = omega (arith, many, c.loop-at-test.true) in
     let is : get_or names c.loop-at.at [] ≡ c.lexeme-name.result.now = name_read c.args.front.now c.loop-at.at c.index-front-at.result c.loop-at-test.true c.index-front-at.is ∙ sym c.lexeme-name.ensures in
     let e : module_named c.lexeme-name.result.now c.loop-at.modules.now ≡ None = search rules in
-    let h : is_some (find c.lexeme-name.result.now (absent_in c.args.absent.now (option_copied c.loop-at.inside))) ≡ true = search rules in
-    (omega (arith, more), c.loop-at.invariant.goes_on ∙ missed names c.loop-at.at more (absent_in c.args.absent.now (option_copied c.loop-at.inside)) c.loop-at.modules.now (option_copied c.loop-at.inside) c.lexeme-name.result.now is e h)
+    let h : is_some (find c.lexeme-name.result.now (absent_there c.args.absent.now (option_copied c.loop-at.inside))) ≡ true = search rules in
+    (omega (arith, more), c.loop-at.invariant.goes_on ∙ missed names c.loop-at.at more (absent_there c.args.absent.now (option_copied c.loop-at.inside)) c.loop-at.modules.now (option_copied c.loop-at.inside) c.lexeme-name.result.now is e h)
 
 pub returns-in-None : goal.returns-in-None
 returns-in-None c =
@@ -27,8 +27,8 @@ returns-in-None c =
     let more : c.loop-at.at < length names = omega (arith, many, c.loop-at-test.true) in
     let is : get_or names c.loop-at.at [] ≡ c.lexeme-name.result.now = name_read c.args.front.now c.loop-at.at c.index-front-at.result c.loop-at-test.true c.index-front-at.is ∙ sym c.lexeme-name.ensures in
     let e : module_named c.lexeme-name.result.now c.loop-at.modules.now ≡ None = search rules in
-    let h : is_some (find c.lexeme-name.result.now (absent_in c.args.absent.now (option_copied c.loop-at.inside))) ≡ false = search rules in
-    c.loop-at.invariant.goes_on ∙ lost names c.loop-at.at more (absent_in c.args.absent.now (option_copied c.loop-at.inside)) c.loop-at.modules.now (option_copied c.loop-at.inside) c.lexeme-name.result.now is e h
+    let h : is_some (find c.lexeme-name.result.now (absent_there c.args.absent.now (option_copied c.loop-at.inside))) ≡ false = search rules in
+    c.loop-at.invariant.goes_on ∙ lost names c.loop-at.at more (absent_there c.args.absent.now (option_copied c.loop-at.inside)) c.loop-at.modules.now (option_copied c.loop-at.inside) c.lexeme-name.result.now is e h
 
 pub loop-at-preserved : goal.loop-at-preserved
 loop-at-preserved c =
@@ -38,6 +38,6 @@ loop-at-preserved c =
     let is : get_or names c.loop-at.at [] ≡ c.lexeme-name.result.now = name_read c.args.front.now c.loop-at.at c.index-front-at.result c.loop-at-test.true c.index-front-at.is ∙ sym c.lexeme-name.ensures in
     let e : module_named c.lexeme-name.result.now c.loop-at.modules.now ≡ Some c.in-Some.module.now = search rules in
     record {
-      goes_on = c.loop-at.invariant.goes_on ∙ entered names c.loop-at.at more (absent_in c.args.absent.now (option_copied c.loop-at.inside)) c.loop-at.modules.now (option_copied c.loop-at.inside) c.lexeme-name.result.now is c.in-Some.module.now c.as_slice-modules.result.now e (search rules);
+      goes_on = c.loop-at.invariant.goes_on ∙ entered names c.loop-at.at more (absent_there c.args.absent.now (option_copied c.loop-at.inside)) c.loop-at.modules.now (option_copied c.loop-at.inside) c.lexeme-name.result.now is c.in-Some.module.now c.as_slice-modules.result.now e (search rules);
       ordered = rw c.as_slice-modules.ensures (named_ordered c.lexeme-name.result.now c.loop-at.modules.now c.in-Some.module.now c.loop-at.invariant.ordered e);
     }

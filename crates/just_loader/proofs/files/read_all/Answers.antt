@@ -6,7 +6,7 @@ use Rattle.just_graph.specs.declared.unfolding.Unfolded.{Unfolded}
 use Rattle.just_parts.specs.Items.{Ast}
 use Rattle.just_errors.specs.declared.error.Error.{Error}
 use Rattle.just_loader.specs.Keys.{spends_at}
-use Rattle.just_loader.specs.loops.Placed.{file_at}
+use Rattle.just_loader.specs.loops.Placed.{scanned_path}
 use Rattle.just_loader.specs.loops.Loading.{IsScanBy, KeepsLaws, Stops, StopsAt, spent_by}
 use Rattle.just_loader.specs.Reached.{World}
 use Rattle.just_loader.specs.loops.Reading.{AreApartBelow}
@@ -43,7 +43,7 @@ returns-in_err-read_file-clause-stopped g c =
     let same : IfErr c.from_residual.result (λ (e : Error). e ≡ c.in_err-read_file.field-0.0) = search rules in
     err_by (λ (e : Error). e ≡ c.in_err-read_file.field-0.0) (λ (e : Error). (w : World) → IsScanBy w c.args.scan.now (g.S.Syntax.answers c.args.syntax.now) → Stops w c.args.scan.now c.args.nodes.now c.args.texts.numerator e)
     c.from_residual.result same (λ e is w by.
-    let stopped = subst (StopsAt c.loop-place.texts.numerator (spends_at w (file_at c.args.scan.now (get_or c.args.nodes.now c.loop-place.place c.index-nodes-place.result).node))) (sym is) (c.in_err-read_file.ensures.stopped w by) in
+    let stopped = subst (StopsAt c.loop-place.texts.numerator (spends_at w (scanned_path c.args.scan.now (get_or c.args.nodes.now c.loop-place.place c.index-nodes-place.result).node))) (sym is) (c.in_err-read_file.ensures.stopped w by) in
     stops_at_last w c.args.scan.now c.args.nodes.now c.loop-place.place c.index-nodes-place.result c.args.texts.numerator c.loop-place.texts.numerator e c.loop-place-test.true (omega (arith, c.loop-place.invariant.spent w by, c.loop-place.invariant.less)) stopped)
 
 pub loop-place-preserved : goal.loop-place-preserved

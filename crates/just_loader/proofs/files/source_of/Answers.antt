@@ -3,7 +3,7 @@ use Rattle.just_graph.specs.declared.unfolding.Step.{Step}
 use Rattle.just_paths.specs.Clean.{IsClean}
 use Rattle.just_source.specs.declared.source.Source.{Source}
 use Rattle.just_loader.specs.loops.Loading.{CameInWorlds}
-use Rattle.just_loader.specs.loops.Placed.{file_at}
+use Rattle.just_loader.specs.loops.Placed.{scanned_path}
 use Rattle.just_loader.specs.loops.Scanned.{EntersName}
 use Rattle.just_loader.proofs.ComingIn.{came_by, came_over, came_root, element_is, over, path_clean, path_is, row_inside, step_inside, step_is}
 use Rattle.just_loader.proofs.FileKeys.{node_inside}
@@ -77,7 +77,7 @@ returns-clause-came c =
       | in-None+in_ok-source-in-None w ↦
           let i = w.in_ok-source-in-None in
           let inside = node_inside c.requires.scan.0 c.args.scan.now c.requires.scan.1 c.args.nodes.now c.requires.nodes (length c.args.sources.now) c.args.node.now c.requires.node in
-          let path : w.as_str.result.now ≡ file_at c.args.scan.now c.args.node.now.node = w.as_str.ensures ∙ path_is c.args.scan.now c.args.node.now.node w.index.result.now inside w.index.ensures in
+          let path : w.as_str.result.now ≡ scanned_path c.args.scan.now c.args.node.now.node = w.as_str.ensures ∙ path_is c.args.scan.now c.args.node.now.node w.index.result.now inside w.index.ensures in
           subst (λ (x : Source). CameInWorlds c.args.scan.now n (record x { file_depth = c.args.node.now.depth })) (sym w.source-is)
           (came_root c.requires.scan.0 c.args.scan.now c.requires.scan.1 c.args.nodes.now c.requires.nodes c.args.sources.now c.args.node.now c.requires.node ns nodes n here
           i.source w.as_str.result.now w.in-None.is path i.ensures.chain i.ensures.offsets i.ensures.module i.ensures.path i.ensures.folder)

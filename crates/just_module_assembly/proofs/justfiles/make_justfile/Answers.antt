@@ -6,16 +6,16 @@ use Rattle.just_justfile.specs.declared.justfile.RecipeKey.{RecipeKey}
 use Rattle.just_justfile.specs.declared.justfile.Justfile.TheViews.{the_lemmas}
 use Rattle.just_module_contents.specs.Contents.{Contents}
 use Rattle.just_module_contents.specs.Definitions.{contents_in, recipes_in}
-use Rattle.just_module_aliases.specs.Aliased.{aliases_of, targets, targets_of}
+use Rattle.just_module_aliases.specs.Aliased.{aliases_of, alias_targets, targets_of}
 use Rattle.just_names.specs.Texts.{Text}
 use Rattle.just_compiled.proofs.Makings.{is_of}
 use Rattle.just_module_assembly.proofs.justfiles.make_justfile.Goals as goal
 
 -- the aliases are those of what the justfile has
 own_aliases : (j : Justfile) (m : Contents) (own : Aliases) (absent : List (Text × Text)) (disabled : List (Text × Disabled)) (modules : List Justfile) (keys : List (Text × RecipeKey)) → (out-Justfile j).aliases ≡ own
-    → own ≡ aliases_of (targets absent disabled modules keys) m.aliases → (out-Justfile j).absent_modules ≡ absent → (out-Justfile j).disabled_recipes ≡ disabled → (out-Justfile j).modules ≡ modules → (out-Justfile j).recipes ≡ keys
+    → own ≡ aliases_of (alias_targets absent disabled modules keys) m.aliases → (out-Justfile j).absent_modules ≡ absent → (out-Justfile j).disabled_recipes ≡ disabled → (out-Justfile j).modules ≡ modules → (out-Justfile j).recipes ≡ keys
     → (out-Justfile j).aliases ≡ aliases_of (targets_of j) m.aliases
-own_aliases j m own absent disabled modules keys is all a d ms ks = is ∙ all ∙ (λ i. aliases_of (targets (sym a i) (sym d i) (sym ms i) (sym ks i)) m.aliases)
+own_aliases j m own absent disabled modules keys is all a d ms ks = is ∙ all ∙ (λ i. aliases_of (alias_targets (sym a i) (sym d i) (sym ms i) (sym ks i)) m.aliases)
 
 pub returns-clause-fields : goal.returns-clause-fields
 returns-clause-fields c =

@@ -7,7 +7,7 @@ use Rattle.just_module_contents.proofs.RecipePlaces.{length-lent}
 use Rattle.just_module_contents.specs.Definitions.{recipes_in}
 use Rattle.just_module_contents.specs.Recipes.{recipe_at}
 use Rattle.just_module_recipes.specs.loops.Making.{IsThere}
-use Rattle.just_module_recipes.specs.Rows.{keys_at, no_set}
+use Rattle.just_module_recipes.specs.Rows.{keys_at, no_paths}
 use Rattle.just_module_recipes.specs.loops.Rows.{AreTargets, around_by}
 use Rattle.just_module_recipes.proofs.Counted.{given_more}
 use Rattle.just_module_recipes.proofs.Finished.{empty_stands}
@@ -35,7 +35,7 @@ check_dependencies-requires-clause-there c =
     let long : length rs ≡ length c.args.kept.now.recipes.items = length-lent c.args.kept.now.recipes.items in
     let inside : c.loop-place.place < length rs = omega (arith, c.loop-place-test.true, c.len-place-end.ensures, long) in
     let within : c.loop-place.place < length c.args.sets.now = omega (arith, inside, c.requires.sets.count) in
-    let set : c.index-sets-place.result ≡ get_or c.args.sets.now c.loop-place.place no_set = c.index-sets-place.is ∙ get_or_default c.args.sets.now c.loop-place.place c.index-sets-place.result no_set within in
+    let set : c.index-sets-place.result ≡ get_or c.args.sets.now c.loop-place.place no_paths = c.index-sets-place.is ∙ get_or_default c.args.sets.now c.loop-place.place c.index-sets-place.result no_paths within in
     let keys : c.index-sets-place.result.keys ≡ keys_at c.args.sets.now c.loop-place.place = ap (λ (s : BTreeSet Modulepath). s.keys) set in
     let zero : length c.index-sets-place.result.keys ≡ 0 = grind (arith, common_steps) in
     let empty : keys_at c.args.sets.now c.loop-place.place ≡ [] = sym keys ∙ nil_from_length c.index-sets-place.result.keys zero in
@@ -49,7 +49,7 @@ check_dependencies-requires-clause-stands c =
     let long : length rs ≡ length c.args.kept.now.recipes.items = length-lent c.args.kept.now.recipes.items in
     let inside : c.loop-place.place < length rs = omega (arith, c.loop-place-test.true, c.len-place-end.ensures, long) in
     let within : c.loop-place.place < length c.args.sets.now = omega (arith, inside, c.requires.sets.count) in
-    let set : c.index-sets-place.result ≡ get_or c.args.sets.now c.loop-place.place no_set = c.index-sets-place.is ∙ get_or_default c.args.sets.now c.loop-place.place c.index-sets-place.result no_set within in
+    let set : c.index-sets-place.result ≡ get_or c.args.sets.now c.loop-place.place no_paths = c.index-sets-place.is ∙ get_or_default c.args.sets.now c.loop-place.place c.index-sets-place.result no_paths within in
     let keys : c.index-sets-place.result.keys ≡ keys_at c.args.sets.now c.loop-place.place = ap (λ (s : BTreeSet Modulepath). s.keys) set in
     let zero : length c.index-sets-place.result.keys ≡ 0 = grind (arith, common_steps) in
     let empty : keys_at c.args.sets.now c.loop-place.place ≡ [] = sym keys ∙ nil_from_length c.index-sets-place.result.keys zero in

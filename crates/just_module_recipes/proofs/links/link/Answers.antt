@@ -7,7 +7,7 @@ use Rattle.just_module_contents.specs.Definitions.{recipes_in}
 use Rattle.just_module_contents.specs.Recipes.{recipe_at}
 use Rattle.just_module_contents.specs.Standing.{AreStanding}
 use Rattle.just_module_recipes.specs.Linked.{disabled_table}
-use Rattle.just_module_recipes.specs.Links.{BreaksLinks, Stands, around}
+use Rattle.just_module_recipes.specs.Links.{BreaksLinks, Stands, around_recipes}
 use Rattle.just_module_recipes.specs.Making.{standing}
 use Rattle.just_module_recipes.specs.loops.Making.{fallen, made}
 use Rattle.just_module_recipes.specs.loops.Planned.{IsPlan}
@@ -26,7 +26,7 @@ use Rattle.just_module_recipes.proofs.links.link.Goals as goal
 pub resolve-requires-clause-counts : goal.resolve-requires-clause-counts
 resolve-requires-clause-counts g c =
     let rs = recipes_in c.args.kept.now in
-    let it = around c.args.absent.now c.args.modules.now c.args.recipes in
+    let it = around_recipes c.args.absent.now c.args.modules.now c.args.recipes in
     let plan : IsPlan rs it c.in_ok-rows.field-0 = c.in_ok-rows.ensures.plan in
     let rows = c.in_ok-rows.field-0.rows.items in
     let read : c.as_slice.result.now ≡ rows = search rules in
@@ -36,7 +36,7 @@ resolve-requires-clause-counts g c =
 pub returns-clause-standing : goal.returns-clause-standing
 returns-clause-standing g c =
     let rs = recipes_in c.args.kept.now in
-    let it = around c.args.absent.now c.args.modules.now c.args.recipes in
+    let it = around_recipes c.args.absent.now c.args.modules.now c.args.recipes in
     let plan : IsPlan rs it c.in_ok-rows.field-0 = c.in_ok-rows.ensures.plan in
     let sets = c.in_ok-rows.field-0.sets.items in
     let is : recipes_in c.in_ok-standing.standing ≡ standing sets rs = c.in_ok-standing.ensures.standing in
@@ -45,7 +45,7 @@ returns-clause-standing g c =
 pub returns-clause-disabled : goal.returns-clause-disabled
 returns-clause-disabled g c =
     let rs = recipes_in c.args.kept.now in
-    let it = around c.args.absent.now c.args.modules.now c.args.recipes in
+    let it = around_recipes c.args.absent.now c.args.modules.now c.args.recipes in
     let plan : IsPlan rs it c.in_ok-rows.field-0 = c.in_ok-rows.ensures.plan in
     let sets = c.in_ok-rows.field-0.sets.items in
     let is : c.in_ok-standing.disabled.items ≡ fallen sets rs = search rules in
@@ -54,7 +54,7 @@ returns-clause-disabled g c =
 pub returns-clause-linked : goal.returns-clause-linked
 returns-clause-linked g c =
     let rs = recipes_in c.args.kept.now in
-    let it = around c.args.absent.now c.args.modules.now c.args.recipes in
+    let it = around_recipes c.args.absent.now c.args.modules.now c.args.recipes in
     let plan : IsPlan rs it c.in_ok-rows.field-0 = c.in_ok-rows.ensures.plan in
     let rows = c.in_ok-rows.field-0.rows.items in
     let order = c.in_ok-rows.field-0.order.items in
@@ -77,7 +77,7 @@ returns-clause-linked g c =
 pub returns-clause-own : goal.returns-clause-own
 returns-clause-own g c =
     let rs = recipes_in c.args.kept.now in
-    let it = around c.args.absent.now c.args.modules.now c.args.recipes in
+    let it = around_recipes c.args.absent.now c.args.modules.now c.args.recipes in
     let plan : IsPlan rs it c.in_ok-rows.field-0 = c.in_ok-rows.ensures.plan in
     let done = c.args.completing.now in
     let answers = g.S.Syntax.answers done.meanings.syntax.now in
@@ -88,7 +88,7 @@ returns-clause-own g c =
 pub returns-in_err-rows-clause-named : goal.returns-in_err-rows-clause-named
 returns-in_err-rows-clause-named g c =
     let rs = recipes_in c.args.kept.now in
-    let it = around c.args.absent.now c.args.modules.now c.args.recipes in
+    let it = around_recipes c.args.absent.now c.args.modules.now c.args.recipes in
     let done = c.args.completing.now in
     let lists = done.meanings.settings.now.lists in
     let tells = TellsOne (g.S.Syntax.answers done.meanings.syntax.now) (g.E.ConstantEvaluation.answers done.among.evaluation.now) done in
@@ -97,7 +97,7 @@ returns-in_err-rows-clause-named g c =
 pub returns-in_err-all-clause-named : goal.returns-in_err-all-clause-named
 returns-in_err-all-clause-named g c =
     let rs = recipes_in c.args.kept.now in
-    let it = around c.args.absent.now c.args.modules.now c.args.recipes in
+    let it = around_recipes c.args.absent.now c.args.modules.now c.args.recipes in
     let plan : IsPlan rs it c.in_ok-rows.field-0 = c.in_ok-rows.ensures.plan in
     let sets = c.in_ok-rows.field-0.sets.items in
     let done = c.args.completing.now in

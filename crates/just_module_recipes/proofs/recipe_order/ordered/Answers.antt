@@ -9,7 +9,7 @@ use Rattle.just_graph.specs.Building.{EachRow}
 use Rattle.just_graph.specs.Steps.{IsCircle, IsOrder, circle_by}
 use Rattle.just_module_contents.proofs.RecipePlaces.{length-lent}
 use Rattle.just_module_contents.specs.Definitions.{recipes_in}
-use Rattle.just_module_contents.specs.Recipes.{Depends, name_of, recipe_at}
+use Rattle.just_module_contents.specs.Recipes.{Depends, name_of_recipe, recipe_at}
 use Rattle.just_module_recipes.specs.loops.Rows.{Circular, circle, near}
 use Rattle.just_module_recipes.specs.declared.targets.Target.TheVariants.{Near}
 use Rattle.just_module_recipes.proofs.Ordering.{circles_kept, is_order_of}
@@ -167,8 +167,8 @@ returns-clause-named c =
     let last : c.index-closing.result.now ≡ slice_index c.in-Err.circle.items (length c.in-Err.circle.items - 2) = closing_read _ _ _ len edge.steps c.index-closing.ensures in
     let again : c.len-in-Err-2.result ≡ length c.in-Err.circle.items = grind (arith, common_steps) in
     let final : c.index.result.now ≡ slice_index c.in-Err.circle.items (length c.in-Err.circle.items - 1) = last_read _ _ _ again edge.steps c.index.ensures in
-    let names = c.in_ok-names-in-Err.ensures ∙ ap (map (λ a. name_of (recipe_at rs a))) c.as_slice-in-Err.ensures.value in
-    let recipe = c.new.ensures ∙ (c.lexeme.ensures ∙ ap name_of c.recipe_at-last.ensures.there) in
+    let names = c.in_ok-names-in-Err.ensures ∙ ap (map (λ a. name_of_recipe (recipe_at rs a))) c.as_slice-in-Err.ensures.value in
+    let recipe = c.new.ensures ∙ (c.lexeme.ensures ∙ ap name_of_recipe c.recipe_at-last.ensures.there) in
     subst (λ (p : Place). Circular rs (Broken p (kind.CircularRecipeDependency c.new.result c.in_ok-names-in-Err.names))) (sym c.dependency_token.ensures.token_is)
-    (circle (circle_of rs c.in-Err.circle.items circular _ _ names (recipe ∙ ap (λ x. name_of (recipe_at rs x)) last))
+    (circle (circle_of rs c.in-Err.circle.items circular _ _ names (recipe ∙ ap (λ x. name_of_recipe (recipe_at rs x)) last))
     (closing_dependency rs c.in-Err.circle.items circular c.new.result c.in_ok-names-in-Err.names c.index-closing.result.now c.index.result.now c.dependency_token.result names recipe last final c.dependency_token.ensures))

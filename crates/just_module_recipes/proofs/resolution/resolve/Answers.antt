@@ -9,8 +9,8 @@ use Rattle.std.specs.List.{All, Contains}
 use Rattle.just_module_contents.proofs.RecipePlaces.{length-lent}
 use Rattle.just_module_contents.specs.Definitions.{recipes_in}
 use Rattle.just_module_contents.specs.Recipes.{recipe_at}
-use Rattle.just_module_recipes.specs.loops.Making.{IsThere, number_of, settled_of}
-use Rattle.just_module_recipes.specs.Rows.{keys_at, no_set}
+use Rattle.just_module_recipes.specs.loops.Making.{IsThere, target_number, settled_of}
+use Rattle.just_module_recipes.specs.Rows.{keys_at, no_paths}
 use Rattle.just_module_recipes.specs.declared.targets.Target.{Target}
 use Rattle.just_module_recipes.proofs.Barred.{told_at}
 use Rattle.just_module_recipes.proofs.Made.{all_there, is_new, numbers_held, so_far}
@@ -32,7 +32,7 @@ resolve_at-requires-clause-there g c = λ e.
     let inside : place < length c.args.rows.now = c.requires.order.below c.loop-n.n c.loop-n-test.true in
     let within : place < length c.args.sets.now = omega (arith, inside, c.requires.rows, c.requires.sets) in
     let row : c.as_slice.result.now ≡ get_or c.args.rows.now place [] = c.as_slice.ensures ∙ (c.index-rows-place.is ∙ get_or_default c.args.rows.now place c.index-rows-place.result [] inside) in
-    let set : c.index-sets-place.result ≡ get_or c.args.sets.now place no_set = c.index-sets-place.is ∙ get_or_default c.args.sets.now place c.index-sets-place.result no_set within in
+    let set : c.index-sets-place.result ≡ get_or c.args.sets.now place no_paths = c.index-sets-place.is ∙ get_or_default c.args.sets.now place c.index-sets-place.result no_paths within in
     let keys : c.index-sets-place.result.keys ≡ keys_at c.args.sets.now place = ap (λ (s : BTreeSet Modulepath). s.keys) set in
     let many : length c.args.rows.now ≡ length rs = c.requires.rows ∙ sym long in
     let bars = told_at c.args.rows.now c.args.order.now c.args.sets.now c.requires.order c.requires.told in
@@ -59,11 +59,11 @@ resolve_at-requires-clause-numbers g c = λ e.
     let inside : place < length c.args.rows.now = c.requires.order.below c.loop-n.n c.loop-n-test.true in
     let within : place < length c.args.sets.now = omega (arith, inside, c.requires.rows, c.requires.sets) in
     let row : c.as_slice.result.now ≡ get_or c.args.rows.now place [] = c.as_slice.ensures ∙ (c.index-rows-place.is ∙ get_or_default c.args.rows.now place c.index-rows-place.result [] inside) in
-    let set : c.index-sets-place.result ≡ get_or c.args.sets.now place no_set = c.index-sets-place.is ∙ get_or_default c.args.sets.now place c.index-sets-place.result no_set within in
+    let set : c.index-sets-place.result ≡ get_or c.args.sets.now place no_paths = c.index-sets-place.is ∙ get_or_default c.args.sets.now place c.index-sets-place.result no_paths within in
     let keys : c.index-sets-place.result.keys ≡ keys_at c.args.sets.now place = ap (λ (s : BTreeSet Modulepath). s.keys) set in
     let many : length c.args.rows.now ≡ length rs = c.requires.rows ∙ sym long in
     let bars = told_at c.args.rows.now c.args.order.now c.args.sets.now c.requires.order c.requires.told in
-    subst (All (λ t. Contains (numbers c.loop-n.recipes) (number_of rs t).0)) (sym row) (numbers_held by completes it.references.now it.meanings.settings.now.lists rs c.args.module_path.now c.args.rows.now c.args.sets.now c.args.recipes c.requires.once c.requires.apart c.args.order.now c.requires.order many bars c.requires.there c.loop-n.n c.loop-n-test.true c.loop-n.recipes c.loop-n.invariant.0 (sym keys ∙ e))
+    subst (All (λ t. Contains (numbers c.loop-n.recipes) (target_number rs t).0)) (sym row) (numbers_held by completes it.references.now it.meanings.settings.now.lists rs c.args.module_path.now c.args.rows.now c.args.sets.now c.args.recipes c.requires.once c.requires.apart c.args.order.now c.requires.order many bars c.requires.there c.loop-n.n c.loop-n-test.true c.loop-n.recipes c.loop-n.invariant.0 (sym keys ∙ e))
 
 pub resolve_at-requires-clause-covered : goal.resolve_at-requires-clause-covered
 resolve_at-requires-clause-covered g c =
@@ -81,7 +81,7 @@ returns-in_err-resolve_at-clause-named g c =
     let place : ℕ = slice_index c.args.order.now c.loop-n.n in
     let inside : place < length c.args.rows.now = c.requires.order.below c.loop-n.n c.loop-n-test.true in
     let within : place < length c.args.sets.now = omega (arith, inside, c.requires.rows, c.requires.sets) in
-    let set : c.index-sets-place.result ≡ get_or c.args.sets.now place no_set = c.index-sets-place.is ∙ get_or_default c.args.sets.now place c.index-sets-place.result no_set within in
+    let set : c.index-sets-place.result ≡ get_or c.args.sets.now place no_paths = c.index-sets-place.is ∙ get_or_default c.args.sets.now place c.index-sets-place.result no_paths within in
     let keys : c.index-sets-place.result.keys ≡ keys_at c.args.sets.now place = ap (λ (s : BTreeSet Modulepath). s.keys) set in
     IfErr-weaker c.from_residual.result (Reports (λ x. (c.index-sets-place.result.keys ≡ []) × tells (recipe_at rs place) x)) _
     (λ e h. reports_by (λ x. (c.index-sets-place.result.keys ≡ []) × tells (recipe_at rs place) x) (OfUndisabled tells rs c.args.sets.now) (λ x k. of_one place (omega (arith, inside, long, c.requires.rows)) (sym keys ∙ k.0) k.1) e h) (search rules)
@@ -107,7 +107,7 @@ loop-n-preserved g c =
     let inside : place < length c.args.rows.now = c.requires.order.below c.loop-n.n c.loop-n-test.true in
     let within : place < length c.args.sets.now = omega (arith, inside, c.requires.rows, c.requires.sets) in
     let row : c.as_slice.result.now ≡ get_or c.args.rows.now place [] = c.as_slice.ensures ∙ (c.index-rows-place.is ∙ get_or_default c.args.rows.now place c.index-rows-place.result [] inside) in
-    let set : c.index-sets-place.result ≡ get_or c.args.sets.now place no_set = c.index-sets-place.is ∙ get_or_default c.args.sets.now place c.index-sets-place.result no_set within in
+    let set : c.index-sets-place.result ≡ get_or c.args.sets.now place no_paths = c.index-sets-place.is ∙ get_or_default c.args.sets.now place c.index-sets-place.result no_paths within in
     let keys : c.index-sets-place.result.keys ≡ keys_at c.args.sets.now place = ap (λ (s : BTreeSet Modulepath). s.keys) set in
     let many : length c.args.rows.now ≡ length rs = c.requires.rows ∙ sym long in
     let bars = told_at c.args.rows.now c.args.order.now c.args.sets.now c.requires.order c.requires.told in

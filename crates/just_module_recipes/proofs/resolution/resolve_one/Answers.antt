@@ -3,7 +3,7 @@ use Rattle.std.proofs.lemmas.Option.{get_or_from_slice_get}
 use Rattle.std.proofs.lemmas.Result.{IfErr-weaker}
 use Rattle.just_errors.specs.Causes.{Keeps, Reports}
 use Rattle.just_module_contents.specs.Definitions.{recipes_in}
-use Rattle.just_module_contents.specs.Recipes.{name_of, no_recipe, recipe_at}
+use Rattle.just_module_contents.specs.Recipes.{name_of_recipe, no_recipe, recipe_at}
 use Rattle.just_module_contents.specs.Resolved.{path_to}
 use Rattle.just_module_recipes.specs.Completed.{BreaksOne, TellsOne, completed_by, with_needed}
 use Rattle.just_module_recipes.specs.loops.Making.{links_of}
@@ -49,7 +49,7 @@ returns-clause-made g c =
     let made : c.in_ok-recipe.recipe ≡ with_needed (by r) numbers = c.in_ok-recipe.ensures.made ∙ ap (λ x. with_needed (by x) numbers) lent in
     let given : c.as_slice-dependencies.result.now ≡ (by r).dependencies = c.as_slice-dependencies.ensures ∙ ap (λ (x : Recipe UnresolvedDependency). x.dependencies) made in
     let links : c.in_ok-links.links ≡ links_of lists rs c.args.recipes.now (by r).dependencies c.args.row.now = c.in_ok-links.ensures ∙ ap (λ ds. links_of lists rs c.args.recipes.now ds c.args.row.now) given in
-    let name : c.lexeme.result.now ≡ name_of r = c.lexeme.ensures ∙ ap (λ (x : Recipe UnresolvedDependency). text_of_name x.name) made in
+    let name : c.lexeme.result.now ≡ name_of_recipe r = c.lexeme.ensures ∙ ap (λ (x : Recipe UnresolvedDependency). text_of_name x.name) made in
     let at : c.in_ok-clone.field-0 ≡ path = c.in_ok-clone.ensures.cases in
-    let to : c.in_ok-recipe_path.recipe_path ≡ path_to path (name_of r) = λ i. record { components = (joined.0 ∙ ap (λ n. path.components ++ n ∷ []) name) i; spaced = joined.1 i } in
+    let to : c.in_ok-recipe_path.recipe_path ≡ path_to path (name_of_recipe r) = λ i. record { components = (joined.0 ∙ ap (λ n. path.components ++ n ∷ []) name) i; spaced = joined.1 i } in
     c.resolved.ensures ∙ (λ i. resolved (made i) ((c.links-2.view_is ∙ links) i) (at i) (to i))

@@ -9,7 +9,7 @@ use Rattle.just_module_contents.specs.declared.labels.Label.{Label}
 use Rattle.just_parts.specs.Evaluator.{scope_values}
 use Rattle.just_ast_expressions.specs.declared.expression.Expression.{Expression}
 use Rattle.just_module_variables.specs.Documented.{AreDocumented}
-use Rattle.just_module_variables.specs.loops.Documented.{DocFault, known_by, value_by}
+use Rattle.just_module_variables.specs.loops.Documented.{DocFault, known_by, value_by_tables}
 use Rattle.just_module_variables.proofs.Documenting.{IsSoundLabel, doc_there, documented_among, documented_more, label_told, label_valued, sound_docs}
 use Rattle.just_module_variables.proofs.Walking.{is_there}
 use Rattle.just_module_variables.proofs.docs.document.Goals as goal
@@ -38,7 +38,7 @@ returns-in_err-documented-clause-named g c =
     let i = c.loop-label.label-index in
     let label = c.label-item.result in
     let there : Contains labels label = is_there labels i label (omega arith) c.label-item.is in
-    IfErr-weaker c.from_residual-in_err-documented.result (Reports (DocFault (known_by answers v) (value_by evaluator v values) label.doc_expression)) _
+    IfErr-weaker c.from_residual-in_err-documented.result (Reports (DocFault (known_by answers v) (value_by_tables evaluator v values) label.doc_expression)) _
     (label_told answers evaluator m v c.requires.variables values labels label c.requires.docs there) (search rules)
 
 pub loop-label-preserved : goal.loop-label-preserved
@@ -51,7 +51,7 @@ loop-label-preserved g c =
     let labels = c.args.labels.now in
     let i = c.loop-label.label-index in
     let label = c.label-item.result in
-    let value = value_by evaluator v values in
+    let value = value_by_tables evaluator v values in
     let first = c.in_ok-documented.field-0 in
     let one : IsSoundLabel (known_by answers v) value label = record { names = c.in_ok-documented.ensures.kept; values = λ e is. label_valued value label first e c.in_ok-documented.ensures.label is } in
     let inside : i < length labels = omega arith in
@@ -72,7 +72,7 @@ returns-clause-kept g c =
     let values = scope_values c.args.constants.now in
     let labels = c.args.labels.now in
     let i = c.loop-label.label-index in
-    let P = IsSoundLabel (known_by answers v) (value_by evaluator v values) in
+    let P = IsSoundLabel (known_by answers v) (value_by_tables evaluator v values) in
     let all : All P labels = subst (All P) (take_all i labels (omega arith)) c.loop-label.invariant.sound in
     sound_docs answers evaluator m v c.requires.variables values labels c.requires.docs (λ label there. All-contains P labels label all there)
 
@@ -86,4 +86,4 @@ returns-clause-labels g c =
     let labels = c.args.labels.now in
     let i = c.loop-label.label-index in
     documented_among answers evaluator m v c.requires.variables values labels c.loop-label.made.items
-    (subst (λ (ls : List Label). AreDocumented (value_by evaluator v values) ls c.loop-label.made.items) (take_all i labels (omega arith)) c.loop-label.invariant.made)
+    (subst (λ (ls : List Label). AreDocumented (value_by_tables evaluator v values) ls c.loop-label.made.items) (take_all i labels (omega arith)) c.loop-label.invariant.made)

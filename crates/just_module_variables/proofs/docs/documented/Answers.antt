@@ -8,14 +8,14 @@ use Rattle.just_parts.specs.Evaluator.{FaultsAt, scope_values}
 use Rattle.just_name_resolution.proofs.Checked.{nothing_hides}
 use Rattle.just_parts.specs.Misnaming.{Misnames}
 use Rattle.just_module_contents.specs.Constants.{text_of_value}
-use Rattle.just_module_variables.specs.loops.Documented.{known_by, value_by}
+use Rattle.just_module_variables.specs.loops.Documented.{known_by, value_by_tables}
 use Rattle.just_module_variables.proofs.Documenting.{doc_had, misnamed_told, names_kept, no_value_told}
 use Rattle.just_module_variables.proofs.docs.documented.Goals as goal
 
 pub returns-in_err-check_expression-clause-named : goal.returns-in_err-check_expression-clause-named
 returns-in_err-check_expression-clause-named g c =
     let m = known_by (g.S.Syntax.answers c.args.given.now.syntax.now) c.args.variables.now in
-    let value = value_by (g.E.ConstantEvaluation.answers c.args.given.now.evaluation.now) c.args.variables.now (scope_values c.args.constants.now) in
+    let value = value_by_tables (g.E.ConstantEvaluation.answers c.args.given.now.evaluation.now) c.args.variables.now (scope_values c.args.constants.now) in
     let said = c.args.label.now.doc_expression in
     let e = c.in-Some.expression in
     let hidden = contains bytes_eq c.new-hidden.result in
@@ -25,7 +25,7 @@ returns-in_err-check_expression-clause-named g c =
 pub returns-in_err-value-clause-named : goal.returns-in_err-value-clause-named
 returns-in_err-value-clause-named g c =
     let m = known_by (g.S.Syntax.answers c.args.given.now.syntax.now) c.args.variables.now in
-    let value = value_by (g.E.ConstantEvaluation.answers c.args.given.now.evaluation.now) c.args.variables.now (scope_values c.args.constants.now) in
+    let value = value_by_tables (g.E.ConstantEvaluation.answers c.args.given.now.evaluation.now) c.args.variables.now (scope_values c.args.constants.now) in
     let said = c.args.label.now.doc_expression in
     let e = c.in-Some.expression in
     let hidden = contains bytes_eq c.new-hidden.result in
@@ -35,7 +35,7 @@ returns-in_err-value-clause-named g c =
 pub returns-clause-kept : goal.returns-clause-kept
 returns-clause-kept g c =
     let m = known_by (g.S.Syntax.answers c.args.given.now.syntax.now) c.args.variables.now in
-    let value = value_by (g.E.ConstantEvaluation.answers c.args.given.now.evaluation.now) c.args.variables.now (scope_values c.args.constants.now) in
+    let value = value_by_tables (g.E.ConstantEvaluation.answers c.args.given.now.evaluation.now) c.args.variables.now (scope_values c.args.constants.now) in
     let said = c.args.label.now.doc_expression in
     let e = c.in-Some.expression in
     let hidden = contains bytes_eq c.new-hidden.result in
@@ -45,7 +45,7 @@ returns-clause-kept g c =
 pub returns-clause-label : goal.returns-clause-label
 returns-clause-label g c =
     let m = known_by (g.S.Syntax.answers c.args.given.now.syntax.now) c.args.variables.now in
-    let value = value_by (g.E.ConstantEvaluation.answers c.args.given.now.evaluation.now) c.args.variables.now (scope_values c.args.constants.now) in
+    let value = value_by_tables (g.E.ConstantEvaluation.answers c.args.given.now.evaluation.now) c.args.variables.now (scope_values c.args.constants.now) in
     let said = c.args.label.now.doc_expression in
     let e = c.in-Some.expression in
     let hidden = contains bytes_eq c.new-hidden.result in

@@ -2,7 +2,7 @@ use Rattle.std.proofs.Common.{◌∙◌, ◌<◌, length, sym, ap, subst, arith}
 use Rattle.std.specs.List.{All, Contains}
 use Rattle.just_graph.specs.Graph.{HasEdge, IsGraph}
 use Rattle.just_graph.specs.Steps.{IsCircle}
-use Rattle.just_graph_order.specs.Through.{IsOrderThrough, Reads}
+use Rattle.just_graph_order.specs.Through.{IsOrderThrough, ReadsThrough}
 use Rattle.just_name_resolution.specs.Lent.{known_in}
 use Rattle.just_module_variables.proofs.Between.{is_graph}
 use Rattle.just_module_variables.proofs.Circles.{circle_at, circle_in}
@@ -48,6 +48,6 @@ returns-in-Ok-clause-ordered g c =
 pub circle_error-requires : goal.circle_error-requires
 circle_error-requires g c =
     let m = known_in (g.S.Syntax.answers c.args.known.now.syntax.now) c.args.known.now in
-    let k : IsCircle (Reads (HasEdge c.as_slice.result.now) c.as_slice-2.result.now) c.in-Err.circle.items = rw c.in-Err.is at c.in_ok-order.ensures.circle in
+    let k : IsCircle (ReadsThrough (HasEdge c.as_slice.result.now) c.as_slice-2.result.now) c.in-Err.circle.items = rw c.in-Err.is at c.in_ok-order.ensures.circle in
     circle_at m (different m.assignments c.requires.variables) (different m.functions c.requires.functions) c.args.nodes.now.rows.items c.requires.rows c.as_slice-in-Err.result.now
     (circle_in m _ _ _ _ _ c.as_slice.ensures.value (c.as_slice-2.ensures.value ∙ c.requires.solid) c.as_slice-in-Err.ensures.value k)

@@ -7,7 +7,7 @@ use Rattle.just_run_layers.specs.Host.{Answer}
 use Rattle.just_run_layers.specs.Interactions.{Return, Log, Question, Interaction, HasTrace, both, log_of}
 use Rattle.just_run_layers.proofs.InteractionLemmas.{keeps-self, keeps-both, took-then, took-give}
 use Rattle.just_recipe_body.specs.Attributes.{directory_of}
-use Rattle.just_recipe_body.specs.Body.{BodyContents, contents_of, folder, string_steps}
+use Rattle.just_recipe_body.specs.Body.{BodyContents, body_contents_of, folder, string_steps}
 use Rattle.just_recipe_body.proofs.AttributeLemmas.{directory-bound, directory-changed}
 use Rattle.just_recipe_body.proofs.StepEnds.{took-exit, took-gone}
 use Rattle.just_recipe_body.proofs.body.ask_directory.Goals as goal
@@ -17,7 +17,7 @@ next b text = Return (Some (path_join (folder b) text))
 
 pub ask_string-requires : goal.ask_string-requires
 ask_string-requires g c =
-    let b : BodyContents = contents_of (g.S.Syntax.answers c.args.body.now.syntax.now) c.args.body.now in
+    let b : BodyContents = body_contents_of (g.S.Syntax.answers c.args.body.now.syntax.now) c.args.body.now in
     let e : Expression = c.in-Some.expression.now in
     let said : directory_of b.recipe.attributes ≡ Some e = ap directory_of (sym c.as_slice.ensures) ∙ sym c.in-Some.ensures in
     record { covered = directory-bound (IsCovered (module_of c.args.body.now.context.now) b.scope) b.recipe.attributes e said c.requires.covered }
@@ -25,7 +25,7 @@ ask_string-requires g c =
 pub returns-in_err-text-in-Some-clause-took : goal.returns-in_err-text-in-Some-clause-took
 returns-in_err-text-in-Some-clause-took g c = λ h entries.
     let p : Question → Option Answer = both (g.E.Evaluation.promised c.args.evaluation.now) h in
-    let b : BodyContents = contents_of (g.S.Syntax.answers c.args.body.now.syntax.now) c.args.body.now in
+    let b : BodyContents = body_contents_of (g.S.Syntax.answers c.args.body.now.syntax.now) c.args.body.now in
     let e : Expression = c.in-Some.expression.now in
     let said : directory_of b.recipe.attributes ≡ Some e = ap directory_of (sym c.as_slice.ensures) ∙ sym c.in-Some.ensures in
     let r = c.from_residual.result in
@@ -38,7 +38,7 @@ pub returns-in_err-join-in-Some-clause-took : goal.returns-in_err-join-in-Some-c
 returns-in_err-join-in-Some-clause-took g c = λ h entries.
     let p : Question → Option Answer = both (g.E.Evaluation.promised c.args.evaluation.now) h in
     let q : Question → Option Answer = both (g.E.Evaluation.promised c.ask_string.new.evaluation) h in
-    let b : BodyContents = contents_of (g.S.Syntax.answers c.args.body.now.syntax.now) c.args.body.now in
+    let b : BodyContents = body_contents_of (g.S.Syntax.answers c.args.body.now.syntax.now) c.args.body.now in
     let e : Expression = c.in-Some.expression.now in
     let said : directory_of b.recipe.attributes ≡ Some e = ap directory_of (sym c.as_slice.ensures) ∙ sym c.in-Some.ensures in
     let r = c.from_residual-in_err-join-in-Some.result in
@@ -52,7 +52,7 @@ pub returns-in_ok-join-in-Some-clause-took : goal.returns-in_ok-join-in-Some-cla
 returns-in_ok-join-in-Some-clause-took g c = λ h entries.
     let p : Question → Option Answer = both (g.E.Evaluation.promised c.args.evaluation.now) h in
     let q : Question → Option Answer = both (g.E.Evaluation.promised c.ask_string.new.evaluation) h in
-    let b : BodyContents = contents_of (g.S.Syntax.answers c.args.body.now.syntax.now) c.args.body.now in
+    let b : BodyContents = body_contents_of (g.S.Syntax.answers c.args.body.now.syntax.now) c.args.body.now in
     let e : Expression = c.in-Some.expression.now in
     let text : Text = c.in_ok-text-in-Some.text in
     let said : directory_of b.recipe.attributes ≡ Some e = ap directory_of (sym c.as_slice.ensures) ∙ sym c.in-Some.ensures in

@@ -3,17 +3,17 @@ use Rattle.just_run_layers.specs.Evaluation.{LineOf}
 use Rattle.just_run_layers.specs.Host.{TextGiven, Refused}
 use Rattle.just_run_layers.specs.Interactions.{both}
 use Rattle.just_run_layers.proofs.InteractionLemmas.{took-asked, took-give, took-fail}
-use Rattle.just_recipe_body.specs.Body.{surroundings_of, contents_of}
+use Rattle.just_recipe_body.specs.Body.{surroundings_of, body_contents_of}
 use Rattle.just_recipe_body.proofs.body.ask_line.Goals as goal
 
 pub returns-in-Ok-clause-took : goal.returns-in-Ok-clause-took
 returns-in-Ok-clause-took g c = λ h entries.
-    took-asked (g.E.Evaluation.promised c.args.evaluation.now) h (LineOf (surroundings_of (contents_of (g.S.Syntax.answers c.args.body.now.syntax.now) c.args.body.now)) c.args.line.now c.args.continued) _ (TextGiven c.in-Ok.text) entries _ _ _ _ refl
+    took-asked (g.E.Evaluation.promised c.args.evaluation.now) h (LineOf (surroundings_of (body_contents_of (g.S.Syntax.answers c.args.body.now.syntax.now) c.args.body.now)) c.args.line.now c.args.continued) _ (TextGiven c.in-Ok.text) entries _ _ _ _ refl
     c.in-Ok.ensures.answers c.in-Ok.ensures.unrequested
     (took-give (both (g.E.Evaluation.promised c.args.evaluation.now) h) _ c.in-Ok.text)
 
 pub returns-in-Err-Fault-clause-took : goal.returns-in-Err-Fault-clause-took
 returns-in-Err-Fault-clause-took g c = λ h entries.
-    (took-asked (g.E.Evaluation.promised c.args.evaluation.now) h (LineOf (surroundings_of (contents_of (g.S.Syntax.answers c.args.body.now.syntax.now) c.args.body.now)) c.args.line.now c.args.continued) _ (Refused c.in-Err-Fault.fault.message) entries _ _ _ _ refl
+    (took-asked (g.E.Evaluation.promised c.args.evaluation.now) h (LineOf (surroundings_of (body_contents_of (g.S.Syntax.answers c.args.body.now.syntax.now) c.args.body.now)) c.args.line.now c.args.continued) _ (Refused c.in-Err-Fault.fault.message) entries _ _ _ _ refl
     (rw c.in-Err-Fault.field-0-is at c.in-Err-Fault.ensures.answers) c.in-Err-Fault.ensures.unrequested
     (took-fail (both (g.E.Evaluation.promised c.args.evaluation.now) h) _ _))

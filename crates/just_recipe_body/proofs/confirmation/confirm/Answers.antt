@@ -8,7 +8,7 @@ use Rattle.just_run_layers.specs.Host.{Answer}
 use Rattle.just_run_layers.specs.Interactions.{Log, Question, Interaction, HasTrace, both, log_of}
 use Rattle.just_run_layers.proofs.InteractionLemmas.{keeps-self, keeps-both, took-then}
 use Rattle.just_recipe_body.specs.Attributes.{first_said}
-use Rattle.just_recipe_body.specs.Body.{BodyContents, contents_of, string_steps}
+use Rattle.just_recipe_body.specs.Body.{BodyContents, body_contents_of, string_steps}
 use Rattle.just_recipe_body.specs.Confirmation.{confirm_by, confirmation_in, prompt_steps, said_prompt, usual_prompt}
 use Rattle.just_recipe_body.proofs.AttributeLemmas.{confirmation-bound}
 use Rattle.just_recipe_body.proofs.StepEnds.{took-exit, took-gone}
@@ -19,7 +19,7 @@ next text = prompt_steps (said_prompt text)
 
 pub ask_string-requires : goal.ask_string-requires
 ask_string-requires g c =
-    let b : BodyContents = contents_of (g.S.Syntax.answers c.args.body.now.syntax.now) c.args.body.now in
+    let b : BodyContents = body_contents_of (g.S.Syntax.answers c.args.body.now.syntax.now) c.args.body.now in
     let e : Expression = c.in-Some-Some.expression in
     let said : first_said confirmation_in b.recipe.attributes ≡ Some (Some e) = ap (first_said confirmation_in) (sym c.as_slice.ensures) ∙ sym c.in-Some-Some.ensures ∙ ap Some c.in-Some-Some.field-0-is in
     record { covered = confirmation-bound (IsCovered (module_of c.args.body.now.context.now) b.scope) b.recipe.attributes e said c.requires.covered }
@@ -29,7 +29,7 @@ returns-in_err-text-in-Some-Some-clause-took g c =
     let h = g.H.Host.promised c.args.host.now in
     let entries = g.H.Host.entries c.args.host.now in
     let p : Question → Option Answer = both (g.E.Evaluation.promised c.args.evaluation.now) h in
-    let b : BodyContents = contents_of (g.S.Syntax.answers c.args.body.now.syntax.now) c.args.body.now in
+    let b : BodyContents = body_contents_of (g.S.Syntax.answers c.args.body.now.syntax.now) c.args.body.now in
     let e : Expression = c.in-Some-Some.expression in
     let said : first_said confirmation_in b.recipe.attributes ≡ Some (Some e) = ap (first_said confirmation_in) (sym c.as_slice.ensures) ∙ sym c.in-Some-Some.ensures ∙ ap Some c.in-Some-Some.field-0-is in
     let r : Result Bool Halt = c.from_residual.result in
@@ -44,7 +44,7 @@ returns-in_err-said_prompt-in-Some-Some-clause-took g c =
     let entries = g.H.Host.entries c.args.host.now in
     let p : Question → Option Answer = both (g.E.Evaluation.promised c.args.evaluation.now) h in
     let q : Question → Option Answer = both (g.E.Evaluation.promised c.ask_string.new.evaluation) h in
-    let b : BodyContents = contents_of (g.S.Syntax.answers c.args.body.now.syntax.now) c.args.body.now in
+    let b : BodyContents = body_contents_of (g.S.Syntax.answers c.args.body.now.syntax.now) c.args.body.now in
     let e : Expression = c.in-Some-Some.expression in
     let said : first_said confirmation_in b.recipe.attributes ≡ Some (Some e) = ap (first_said confirmation_in) (sym c.as_slice.ensures) ∙ sym c.in-Some-Some.ensures ∙ ap Some c.in-Some-Some.field-0-is in
     let r : Result Bool Halt = c.from_residual-in_err-said_prompt-in-Some-Some.result in
@@ -62,7 +62,7 @@ returns-in_ok-said_prompt-in-Some-Some-clause-took g c =
     let after = g.E.Evaluation.requests c.ask_string.new.evaluation in
     let p : Question → Option Answer = both (g.E.Evaluation.promised c.args.evaluation.now) h in
     let q : Question → Option Answer = both (g.E.Evaluation.promised c.ask_string.new.evaluation) h in
-    let b : BodyContents = contents_of (g.S.Syntax.answers c.args.body.now.syntax.now) c.args.body.now in
+    let b : BodyContents = body_contents_of (g.S.Syntax.answers c.args.body.now.syntax.now) c.args.body.now in
     let e : Expression = c.in-Some-Some.expression in
     let said : first_said confirmation_in b.recipe.attributes ≡ Some (Some e) = ap (first_said confirmation_in) (sym c.as_slice.ensures) ∙ sym c.in-Some-Some.ensures ∙ ap Some c.in-Some-Some.field-0-is in
     let r : Result Bool Halt = c.ask_host-in-Some-Some.result in
@@ -80,7 +80,7 @@ returns-in_ok-usual_prompt-in-Some-None-clause-took g c =
     let e = g.E.Evaluation.promised c.args.evaluation.now in
     let requests = g.E.Evaluation.requests c.args.evaluation.now in
     let p : Question → Option Answer = both e (g.H.Host.promised c.args.host.now) in
-    let b : BodyContents = contents_of (g.S.Syntax.answers c.args.body.now.syntax.now) c.args.body.now in
+    let b : BodyContents = body_contents_of (g.S.Syntax.answers c.args.body.now.syntax.now) c.args.body.now in
     let said : first_said confirmation_in b.recipe.attributes ≡ Some None = ap (first_said confirmation_in) (sym c.as_slice.ensures) ∙ sym c.in-Some-None.ensures ∙ ap Some c.in-Some-None.field-0-is in
     let r : Result Bool Halt = c.ask_host-in-Some-None-2.result in
     let old : Log = log_of (g.H.Host.entries c.args.host.now) requests in

@@ -2,7 +2,7 @@ use Rattle.std.proofs.Common.{◌∙◌, List, ap, length, subst, sym}
 use Rattle.std.proofs.lemmas.Result.{IfOk-weaker}
 use Rattle.just_module_contents.specs.Definitions.{recipes_in}
 use Rattle.just_module_contents.proofs.RecipePlaces.{length-lent}
-use Rattle.just_module_recipes.specs.Links.{around}
+use Rattle.just_module_recipes.specs.Links.{around_recipes}
 use Rattle.just_names.specs.declared.number.Number.{Number}
 use Rattle.just_recipe_needs.specs.Needed.{HaveReferences}
 use Rattle.just_recipe_resolution.specs.Basis.{basis_of, completion_on}
@@ -19,5 +19,5 @@ returns-clause-linked g c =
     let rs = recipes_in c.args.kept.now in
     let completed = completion_on (g.S.Syntax.answers by.meanings.syntax.now) (g.E.ConstantEvaluation.answers by.among.evaluation.now) (basis_of by) in
     let have : HaveReferences completed.Needs rs c.as_slice.result.now = subst (HaveReferences completed.Needs rs) (sym c.as_slice.ensures.value) c.in_ok-references.ensures in
-    let it = around c.args.absent.now c.args.modules.now c.args.recipes in
+    let it = around_recipes c.args.absent.now c.args.modules.now c.args.recipes in
     IfOk-weaker c.link.result _ _ (λ made adds. adds_so completed.Needs rs c.as_slice.result.now have completed.by by.meanings.settings.now.lists it c.args.module_path.now made.all adds) c.link.ensures.linked

@@ -5,7 +5,7 @@ use Rattle.just_paths.specs.declared.modulepath.Modulepath.{Modulepath}
 use Rattle.just_run_layers.specs.Host.{Answer}
 use Rattle.just_run_layers.specs.Interactions.{Log, Question, HasTrace, and_then, both, log_of}
 use Rattle.just_run_layers.proofs.InteractionLemmas.{keeps-then, keeps-self, keeps-both, took-then}
-use Rattle.just_recipe_body.specs.Body.{BodyContents, contents_of, is_loquacious}
+use Rattle.just_recipe_body.specs.Body.{BodyContents, body_contents_of, is_loquacious}
 use Rattle.just_recipe_body.proofs.StepEnds.{took-exit}
 use Rattle.just_recipe_run.specs.RecipeRun.{body_steps, explain_steps, explained_steps, running_steps}
 use Rattle.just_recipe_run.proofs.run.run_recipe.Goals as goal
@@ -18,7 +18,7 @@ returns-in_err-show_running-clause-took g c =
     let e = g.E.Evaluation.promised c.args.evaluation.now in
     let requests = g.E.Evaluation.requests c.args.evaluation.now in
     let p : Question → Option Answer = both e (g.H.Host.promised c.args.host.now) in
-    let b : BodyContents = contents_of (g.S.Syntax.answers c.args.body.now.syntax.now) c.args.body.now in
+    let b : BodyContents = body_contents_of (g.S.Syntax.answers c.args.body.now.syntax.now) c.args.body.now in
     let r : Result (Unit {0}) Halt = c.from_residual.result in
     let old : Log = log_of (g.H.Host.entries c.args.host.now) requests in
     let new : Log = log_of (g.H.Host.entries c.show_running.new.host) requests in
@@ -32,7 +32,7 @@ returns-in_err-show_doc-clause-took g c =
     let requests = g.E.Evaluation.requests c.args.evaluation.now in
     let p : Question → Option Answer = both e (g.H.Host.promised c.args.host.now) in
     let q : Question → Option Answer = both e (g.H.Host.promised c.show_running.new.host) in
-    let b : BodyContents = contents_of (g.S.Syntax.answers c.args.body.now.syntax.now) c.args.body.now in
+    let b : BodyContents = body_contents_of (g.S.Syntax.answers c.args.body.now.syntax.now) c.args.body.now in
     let r : Result (Unit {0}) Halt = c.from_residual-in_err-show_doc.result in
     let old : Log = log_of (g.H.Host.entries c.args.host.now) requests in
     let mid : Log = log_of (g.H.Host.entries c.show_running.new.host) requests in
@@ -49,7 +49,7 @@ returns-clause-took g c =
     let p : Question → Option Answer = both e (g.H.Host.promised c.args.host.now) in
     let q : Question → Option Answer = both e (g.H.Host.promised c.show_running.new.host) in
     let o : Question → Option Answer = both e (g.H.Host.promised c.show_doc.new.host) in
-    let b : BodyContents = contents_of (g.S.Syntax.answers c.args.body.now.syntax.now) c.args.body.now in
+    let b : BodyContents = body_contents_of (g.S.Syntax.answers c.args.body.now.syntax.now) c.args.body.now in
     let r : Result (Unit {0}) Halt = c.run_body.result in
     let old : Log = log_of (g.H.Host.entries c.args.host.now) requests in
     let mid : Log = log_of (g.H.Host.entries c.show_running.new.host) requests in

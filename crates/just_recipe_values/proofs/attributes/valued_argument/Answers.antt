@@ -4,7 +4,7 @@ use Rattle.std.proofs.lemmas.List.Elements.{Contains-append_left, Contains-appen
 use Rattle.std.proofs.lemmas.Result.{IfErr-weaker}
 use Rattle.just_errors.specs.Causes.{Reports}
 use Rattle.just_parts.specs.Scopes.{property_expressions}
-use Rattle.just_recipe_values.specs.Among.{value_of}
+use Rattle.just_recipe_values.specs.Among.{value_in_module}
 use Rattle.just_recipe_values.specs.loops.Judged.{Faults}
 use Rattle.just_recipe_values.proofs.Judging.{sound_both, told_left, told_right}
 use Rattle.just_recipe_values.proofs.attributes.valued_argument.Goals as goal
@@ -16,7 +16,7 @@ help_of-requires g c =
 
 pub returns-in_err-help-clause-named : goal.returns-in_err-help-clause-named
 returns-in_err-help-clause-named g c =
-    let value = value_of (g.E.ConstantEvaluation.answers c.args.among.now.evaluation.now) c.args.among.now in
+    let value = value_in_module (g.E.ConstantEvaluation.answers c.args.among.now.evaluation.now) c.args.among.now in
     let a = c.args.argument in
     IfErr-weaker c.from_residual.result (Reports (Faults value (property_expressions a.help_property) [])) _
     (told_left value (property_expressions a.help_property) (property_expressions a.pattern_property) [] (option_to_list a.pattern_property)) (search rules)
@@ -28,13 +28,13 @@ pattern_of-requires g c =
 
 pub returns-in_err-pattern-clause-named : goal.returns-in_err-pattern-clause-named
 returns-in_err-pattern-clause-named g c =
-    let value = value_of (g.E.ConstantEvaluation.answers c.args.among.now.evaluation.now) c.args.among.now in
+    let value = value_in_module (g.E.ConstantEvaluation.answers c.args.among.now.evaluation.now) c.args.among.now in
     let a = c.args.argument in
     IfErr-weaker c.from_residual-in_err-pattern.result (Reports (Faults value (property_expressions a.pattern_property) (option_to_list a.pattern_property))) _
     (told_right value (property_expressions a.help_property) (property_expressions a.pattern_property) [] (option_to_list a.pattern_property)) (search rules)
 
 pub returns-clause-kept : goal.returns-clause-kept
 returns-clause-kept g c =
-    let value = value_of (g.E.ConstantEvaluation.answers c.args.among.now.evaluation.now) c.args.among.now in
+    let value = value_in_module (g.E.ConstantEvaluation.answers c.args.among.now.evaluation.now) c.args.among.now in
     let a = c.args.argument in
     sound_both value (property_expressions a.help_property) (property_expressions a.pattern_property) [] (option_to_list a.pattern_property) c.in_ok-help.ensures.kept c.in_ok-pattern.ensures.kept

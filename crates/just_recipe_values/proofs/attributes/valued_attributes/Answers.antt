@@ -4,7 +4,7 @@ use Rattle.std.proofs.lemmas.Result.{IfErr-weaker}
 use Rattle.just_errors.specs.Causes.{Reports}
 use Rattle.just_module_contents.specs.RecipeValues.{patterns_in}
 use Rattle.just_parts.specs.Scopes.{compiled_expressions}
-use Rattle.just_recipe_values.specs.Among.{value_of}
+use Rattle.just_recipe_values.specs.Among.{value_in_module}
 use Rattle.just_recipe_values.specs.loops.Judged.{Faults}
 use Rattle.just_recipe_values.specs.Valued.{last_doc, valued_named}
 use Rattle.just_recipe_values.proofs.Judging.{less_left, none_left, there_next, told_next}
@@ -13,7 +13,7 @@ use Rattle.just_recipe_values.proofs.attributes.valued_attributes.Goals as goal
 
 pub valued_attribute-requires : goal.valued_attribute-requires
 valued_attribute-requires g c =
-    let value = value_of (g.E.ConstantEvaluation.answers c.args.among.now.evaluation.now) c.args.among.now in
+    let value = value_in_module (g.E.ConstantEvaluation.answers c.args.among.now.evaluation.now) c.args.among.now in
     let rest = c.loop-named.named-iterator.rest.items in
     let more = c.next.new.self.rest.items in
     let named = c.in-Some.named in
@@ -22,7 +22,7 @@ valued_attribute-requires g c =
 
 pub returns-in_err-attribute-clause-named : goal.returns-in_err-attribute-clause-named
 returns-in_err-attribute-clause-named g c =
-    let value = value_of (g.E.ConstantEvaluation.answers c.args.among.now.evaluation.now) c.args.among.now in
+    let value = value_in_module (g.E.ConstantEvaluation.answers c.args.among.now.evaluation.now) c.args.among.now in
     let rest = c.loop-named.named-iterator.rest.items in
     let more = c.next.new.self.rest.items in
     let named = c.in-Some.named in
@@ -32,7 +32,7 @@ returns-in_err-attribute-clause-named g c =
 
 pub loop-named-preserved : goal.loop-named-preserved
 loop-named-preserved g c =
-    let value = value_of (g.E.ConstantEvaluation.answers c.args.among.now.evaluation.now) c.args.among.now in
+    let value = value_in_module (g.E.ConstantEvaluation.answers c.args.among.now.evaluation.now) c.args.among.now in
     let all = c.args.attributes in
     let rest = c.loop-named.named-iterator.rest.items in
     let more = c.next.new.self.rest.items in
@@ -48,14 +48,14 @@ loop-named-preserved g c =
 
 pub returns-clause-kept : goal.returns-clause-kept
 returns-clause-kept g c =
-    let value = value_of (g.E.ConstantEvaluation.answers c.args.among.now.evaluation.now) c.args.among.now in
+    let value = value_in_module (g.E.ConstantEvaluation.answers c.args.among.now.evaluation.now) c.args.among.now in
     let rest = c.loop-named.named-iterator.rest.items in
     let zero : length rest ≡ 0 = search rules in
     none_left value c.args.attributes rest c.loop-named.invariant.left (nil_from_length rest zero)
 
 pub returns-clause-attributes : goal.returns-clause-attributes
 returns-clause-attributes g c =
-    let value = value_of (g.E.ConstantEvaluation.answers c.args.among.now.evaluation.now) c.args.among.now in
+    let value = value_in_module (g.E.ConstantEvaluation.answers c.args.among.now.evaluation.now) c.args.among.now in
     let rest = c.loop-named.named-iterator.rest.items in
     let zero : length rest ≡ 0 = search rules in
     c.from_vec.ensures
@@ -63,7 +63,7 @@ returns-clause-attributes g c =
 
 pub returns-clause-doc : goal.returns-clause-doc
 returns-clause-doc g c =
-    let value = value_of (g.E.ConstantEvaluation.answers c.args.among.now.evaluation.now) c.args.among.now in
+    let value = value_in_module (g.E.ConstantEvaluation.answers c.args.among.now.evaluation.now) c.args.among.now in
     let rest = c.loop-named.named-iterator.rest.items in
     let zero : length rest ≡ 0 = search rules in
     doc_all value rest c.loop-named.doc (last_doc value c.args.attributes c.args.doc) c.loop-named.invariant.doc (nil_from_length rest zero)

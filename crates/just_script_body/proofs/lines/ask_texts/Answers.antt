@@ -4,7 +4,7 @@ use Rattle.just_names.specs.Texts.{Text}
 use Rattle.just_run_layers.specs.Host.{Answer}
 use Rattle.just_run_layers.specs.Interactions.{Question, Interaction, both}
 use Rattle.just_run_layers.proofs.InteractionLemmas.{keeps-then, keeps-self, keeps-both, took-then, took-give}
-use Rattle.just_recipe_body.specs.Body.{BodyContents, contents_of, line_steps}
+use Rattle.just_recipe_body.specs.Body.{BodyContents, body_contents_of, line_steps}
 use Rattle.just_recipe_body.proofs.StepEnds.{took-exit, took-gone}
 use Rattle.just_script_body.proofs.ScriptLemmas.{behind_steps, no-line, of-line, of-texts, took-none, took-one}
 use Rattle.just_script_body.proofs.lines.ask_texts.Goals as goal
@@ -16,7 +16,7 @@ pub loop-line-init : goal.loop-line-init
 loop-line-init g c = record {
   keeps = keeps-self _;
   rest = λ h entries new r t.
-      let b : BodyContents = contents_of (g.S.Syntax.answers c.args.body.now.syntax.now) c.args.body.now in
+      let b : BodyContents = body_contents_of (g.S.Syntax.answers c.args.body.now.syntax.now) c.args.body.now in
       of-texts (both (g.E.Evaluation.promised c.args.evaluation.now) h) b c.args.lines.now _ new r (rw c.new-texts.ensures at t);
 }
 
@@ -29,7 +29,7 @@ returns-in_err-push-clause-keeps g c = keeps-then _ _ _ c.loop-line.invariant.ke
 pub returns-in_err-text-clause-took : goal.returns-in_err-text-clause-took
 returns-in_err-text-clause-took g c = λ h entries.
     let p : Question → Option Answer = both (g.E.Evaluation.promised c.loop-line.evaluation) h in
-    let b : BodyContents = contents_of (g.S.Syntax.answers c.args.body.now.syntax.now) c.args.body.now in
+    let b : BodyContents = body_contents_of (g.S.Syntax.answers c.args.body.now.syntax.now) c.args.body.now in
     let line : Line = c.line-item.result in
     let done : List Text = c.loop-line.texts in
     let r = c.from_residual.result in
@@ -42,7 +42,7 @@ pub returns-in_err-push-clause-took : goal.returns-in_err-push-clause-took
 returns-in_err-push-clause-took g c = λ h entries.
     let p : Question → Option Answer = both (g.E.Evaluation.promised c.loop-line.evaluation) h in
     let q : Question → Option Answer = both (g.E.Evaluation.promised c.ask_line.new.evaluation) h in
-    let b : BodyContents = contents_of (g.S.Syntax.answers c.args.body.now.syntax.now) c.args.body.now in
+    let b : BodyContents = body_contents_of (g.S.Syntax.answers c.args.body.now.syntax.now) c.args.body.now in
     let line : Line = c.line-item.result in
     let done : List Text = c.loop-line.texts in
     let r = c.from_residual-in_err-push.result in
@@ -54,7 +54,7 @@ returns-in_err-push-clause-took g c = λ h entries.
 
 pub loop-line-preserved : goal.loop-line-preserved
 loop-line-preserved g c =
-    let b : BodyContents = contents_of (g.S.Syntax.answers c.args.body.now.syntax.now) c.args.body.now in
+    let b : BodyContents = body_contents_of (g.S.Syntax.answers c.args.body.now.syntax.now) c.args.body.now in
     let line : Line = c.line-item.result in
     let done : List Text = c.loop-line.texts in
     record {
@@ -72,7 +72,7 @@ loop-line-preserved g c =
 pub returns-clause-took : goal.returns-clause-took
 returns-clause-took g c = λ h entries.
     let p : Question → Option Answer = both (g.E.Evaluation.promised c.loop-line.evaluation) h in
-    let b : BodyContents = contents_of (g.S.Syntax.answers c.args.body.now.syntax.now) c.args.body.now in
+    let b : BodyContents = body_contents_of (g.S.Syntax.answers c.args.body.now.syntax.now) c.args.body.now in
     let done : List Text = c.loop-line.texts in
     c.loop-line.invariant.rest h entries _ (Ok done)
     (took-none p (behind_steps b done) c.args.lines.now c.loop-line.line-index _ _ (Ok done) (omega (arith, c.loop-line-test.false))

@@ -9,7 +9,7 @@ use Rattle.just_run_layers.specs.Covering.{module_of}
 use Rattle.just_run_layers.specs.Host.{Answer}
 use Rattle.just_run_layers.specs.Interactions.{Question, both}
 use Rattle.just_run_layers.proofs.InteractionLemmas.{keeps-then, keeps-both, took-then, took-give}
-use Rattle.just_recipe_body.specs.Body.{BodyContents, contents_of}
+use Rattle.just_recipe_body.specs.Body.{BodyContents, body_contents_of}
 use Rattle.just_recipe_body.specs.declared.body.Preparation.{Preparation}
 use Rattle.just_recipe_body.specs.declared.judgement.Next.TheVariants.{Onward, Ended}
 use Rattle.just_recipe_body.proofs.StepEnds.{took-exit}
@@ -30,7 +30,7 @@ returns-in-Ended-clause-keeps_host g c = keeps-then _ _ _ c.loop-at.invariant.ke
 pub returns-in_err-run_group-clause-took : goal.returns-in_err-run_group-clause-took
 returns-in_err-run_group-clause-took g c =
     let p : Question → Option Answer = both (g.E.Evaluation.promised c.loop-at.evaluation) (g.H.Host.promised c.loop-at.host) in
-    let b : BodyContents = contents_of (g.S.Syntax.answers c.args.body.now.syntax.now) c.args.body.now in
+    let b : BodyContents = body_contents_of (g.S.Syntax.answers c.args.body.now.syntax.now) c.args.body.now in
     let prep : Preparation = c.args.preparation.now in
     let group : List Line = c.group_at-group.result.now in
     let others : List Line = drop (c.loop-at.at + length group) c.args.lines.now in
@@ -43,7 +43,7 @@ pub returns-in-Ended-clause-took : goal.returns-in-Ended-clause-took
 returns-in-Ended-clause-took g c =
     let p : Question → Option Answer = both (g.E.Evaluation.promised c.loop-at.evaluation) (g.H.Host.promised c.loop-at.host) in
     let q : Question → Option Answer = both (g.E.Evaluation.promised c.run_group.new.evaluation) (g.H.Host.promised c.run_group.new.host) in
-    let b : BodyContents = contents_of (g.S.Syntax.answers c.args.body.now.syntax.now) c.args.body.now in
+    let b : BodyContents = body_contents_of (g.S.Syntax.answers c.args.body.now.syntax.now) c.args.body.now in
     let prep : Preparation = c.args.preparation.now in
     let group : List Line = c.group_at-group.result.now in
     let others : List Line = drop (c.loop-at.at + length group) c.args.lines.now in
@@ -56,7 +56,7 @@ pub loop-at-preserved : goal.loop-at-preserved
 loop-at-preserved g c =
     let p : Question → Option Answer = both (g.E.Evaluation.promised c.loop-at.evaluation) (g.H.Host.promised c.loop-at.host) in
     let q : Question → Option Answer = both (g.E.Evaluation.promised c.run_group.new.evaluation) (g.H.Host.promised c.run_group.new.host) in
-    let b : BodyContents = contents_of (g.S.Syntax.answers c.args.body.now.syntax.now) c.args.body.now in
+    let b : BodyContents = body_contents_of (g.S.Syntax.answers c.args.body.now.syntax.now) c.args.body.now in
     let prep : Preparation = c.args.preparation.now in
     let group : List Line = c.group_at-group.result.now in
     let others : List Line = drop (c.loop-at.at + length group) c.args.lines.now in
@@ -73,6 +73,6 @@ loop-at-preserved g c =
 
 pub returns-clause-took : goal.returns-clause-took
 returns-clause-took g c =
-    let b : BodyContents = contents_of (g.S.Syntax.answers c.args.body.now.syntax.now) c.args.body.now in
+    let b : BodyContents = body_contents_of (g.S.Syntax.answers c.args.body.now.syntax.now) c.args.body.now in
     c.loop-at.invariant.rest _ (Ok tt)
     (no-groups (both (g.E.Evaluation.promised c.loop-at.evaluation) (g.H.Host.promised c.loop-at.host)) b c.args.preparation.now (drop c.loop-at.at c.args.lines.now) _ (omega (arith, length-drop c.loop-at.at c.args.lines.now, c.loop-at-test.false)))

@@ -5,7 +5,7 @@ use Rattle.just_run_layers.specs.Covering.{module_of}
 use Rattle.just_run_layers.specs.Host.{Answer}
 use Rattle.just_run_layers.specs.Interactions.{Return, Question, Interaction, both, log_of}
 use Rattle.just_run_layers.proofs.InteractionLemmas.{keeps-self, keeps-both, took-then, took-give}
-use Rattle.just_recipe_body.specs.Body.{BodyContents, contents_of}
+use Rattle.just_recipe_body.specs.Body.{BodyContents, body_contents_of}
 use Rattle.just_shell_body.specs.Lines.{command_of_group, lines_text_steps}
 use Rattle.just_shell_body.specs.declared.lines.GroupCommand.{GroupCommand}
 use Rattle.just_shell_body.proofs.ShellLemmas.{begins-first, group-bound, of-group, of-skipped}
@@ -17,7 +17,7 @@ next b line lines text = Return (command_of_group (b.syntax.sigils line b.contex
 
 pub ask_text-requires : goal.ask_text-requires
 ask_text-requires g c =
-    let b : BodyContents = contents_of (g.S.Syntax.answers c.args.body.now.syntax.now) c.args.body.now in
+    let b : BodyContents = body_contents_of (g.S.Syntax.answers c.args.body.now.syntax.now) c.args.body.now in
     record {
       same = c.requires.same;
       covered = group-bound b.syntax b.context.settings (module_of c.args.body.now.context.now) b.scope c.in-Some.first.now c.in-Some.rest.now c.args.lines.now c.in-Some.ensures.cases.0 (sym c.is_skipped.ensures ∙ c.if-is_skipped.false) c.requires.covered;
@@ -25,19 +25,19 @@ ask_text-requires g c =
 
 pub command_said-requires : goal.command_said-requires
 command_said-requires g c =
-    let b : BodyContents = contents_of (g.S.Syntax.answers c.args.body.now.syntax.now) c.args.body.now in
+    let b : BodyContents = body_contents_of (g.S.Syntax.answers c.args.body.now.syntax.now) c.args.body.now in
     rw (c.as_slice.ensures, c.as_str.ensures, c.in_ok-sigils.ensures.are) (begins-first b.syntax b.context.settings c.in-Some.first.now c.in-Some.rest.now c.args.lines.now c.in_ok-text.text c.in-Some.ensures.cases.0 c.in_ok-text.ensures.begins)
 
 pub returns-then-is_skipped-clause-took : goal.returns-then-is_skipped-clause-took
 returns-then-is_skipped-clause-took g c = λ h entries.
     let p : Question → Option Answer = both (g.E.Evaluation.promised c.args.evaluation.now) h in
-    let b : BodyContents = contents_of (g.S.Syntax.answers c.args.body.now.syntax.now) c.args.body.now in
+    let b : BodyContents = body_contents_of (g.S.Syntax.answers c.args.body.now.syntax.now) c.args.body.now in
     of-skipped p b c.in-Some.first.now c.in-Some.rest.now c.args.lines.now _ c.in-Some.ensures.cases.0 (sym c.is_skipped.ensures ∙ c.if-is_skipped.true)
 
 pub returns-in_err-text-clause-took : goal.returns-in_err-text-clause-took
 returns-in_err-text-clause-took g c = λ h entries.
     let p : Question → Option Answer = both (g.E.Evaluation.promised c.args.evaluation.now) h in
-    let b : BodyContents = contents_of (g.S.Syntax.answers c.args.body.now.syntax.now) c.args.body.now in
+    let b : BodyContents = body_contents_of (g.S.Syntax.answers c.args.body.now.syntax.now) c.args.body.now in
     let line : Line = c.in-Some.first.now in
     let rest : List Line = c.in-Some.rest.now in
     let r = c.from_residual.result in
@@ -48,7 +48,7 @@ pub returns-in_err-sigils-clause-took : goal.returns-in_err-sigils-clause-took
 returns-in_err-sigils-clause-took g c = λ h entries.
     let p : Question → Option Answer = both (g.E.Evaluation.promised c.args.evaluation.now) h in
     let q : Question → Option Answer = both (g.E.Evaluation.promised c.ask_text.new.evaluation) h in
-    let b : BodyContents = contents_of (g.S.Syntax.answers c.args.body.now.syntax.now) c.args.body.now in
+    let b : BodyContents = body_contents_of (g.S.Syntax.answers c.args.body.now.syntax.now) c.args.body.now in
     let line : Line = c.in-Some.first.now in
     let rest : List Line = c.in-Some.rest.now in
     let r = c.from_residual-in_err-sigils.result in
@@ -60,7 +60,7 @@ pub returns-in_err-command_said-clause-took : goal.returns-in_err-command_said-c
 returns-in_err-command_said-clause-took g c = λ h entries.
     let p : Question → Option Answer = both (g.E.Evaluation.promised c.args.evaluation.now) h in
     let q : Question → Option Answer = both (g.E.Evaluation.promised c.ask_text.new.evaluation) h in
-    let b : BodyContents = contents_of (g.S.Syntax.answers c.args.body.now.syntax.now) c.args.body.now in
+    let b : BodyContents = body_contents_of (g.S.Syntax.answers c.args.body.now.syntax.now) c.args.body.now in
     let line : Line = c.in-Some.first.now in
     let rest : List Line = c.in-Some.rest.now in
     let r = c.from_residual-in_err-command_said.result in
@@ -72,7 +72,7 @@ pub returns-clause-took : goal.returns-clause-took
 returns-clause-took g c = λ h entries.
     let p : Question → Option Answer = both (g.E.Evaluation.promised c.args.evaluation.now) h in
     let q : Question → Option Answer = both (g.E.Evaluation.promised c.ask_text.new.evaluation) h in
-    let b : BodyContents = contents_of (g.S.Syntax.answers c.args.body.now.syntax.now) c.args.body.now in
+    let b : BodyContents = body_contents_of (g.S.Syntax.answers c.args.body.now.syntax.now) c.args.body.now in
     let line : Line = c.in-Some.first.now in
     let rest : List Line = c.in-Some.rest.now in
     of-group p b line rest c.args.lines.now _ _ _ c.in-Some.ensures.cases.0 (sym c.is_skipped.ensures ∙ c.if-is_skipped.false)

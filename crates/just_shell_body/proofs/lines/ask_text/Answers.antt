@@ -5,7 +5,7 @@ use Rattle.just_parts.specs.Syntax.{SyntaxAnswers}
 use Rattle.just_run_layers.specs.Host.{Answer}
 use Rattle.just_run_layers.specs.Interactions.{Return, Question, both, log_of}
 use Rattle.just_run_layers.proofs.InteractionLemmas.{keeps-then, keeps-self, keeps-both, took-then, took-give}
-use Rattle.just_recipe_body.specs.Body.{BodyContents, contents_of, line_steps}
+use Rattle.just_recipe_body.specs.Body.{BodyContents, body_contents_of, line_steps}
 use Rattle.just_shell_body.specs.Lines.{trimmed}
 use Rattle.just_shell_body.specs.loops.Lines.{TextBeginsGroup}
 use Rattle.just_recipe_body.proofs.StepEnds.{took-exit, took-gone}
@@ -21,7 +21,7 @@ returns-in_err-push_str-clause-keeps g c = keeps-then _ _ _ c.loop-line.invarian
 pub returns-in_err-part-clause-took : goal.returns-in_err-part-clause-took
 returns-in_err-part-clause-took g c = λ h entries.
     let p : Question → Option Answer = both (g.E.Evaluation.promised c.loop-line.evaluation) h in
-    let b : BodyContents = contents_of (g.S.Syntax.answers c.args.body.now.syntax.now) c.args.body.now in
+    let b : BodyContents = body_contents_of (g.S.Syntax.answers c.args.body.now.syntax.now) c.args.body.now in
     let line : Line = c.line-item.result in
     let r = c.from_residual.result in
     c.loop-line.invariant.rest h entries _ r
@@ -32,7 +32,7 @@ pub returns-in_err-push_str-clause-took : goal.returns-in_err-push_str-clause-to
 returns-in_err-push_str-clause-took g c = λ h entries.
     let p : Question → Option Answer = both (g.E.Evaluation.promised c.loop-line.evaluation) h in
     let q : Question → Option Answer = both (g.E.Evaluation.promised c.ask_line.new.evaluation) h in
-    let b : BodyContents = contents_of (g.S.Syntax.answers c.args.body.now.syntax.now) c.args.body.now in
+    let b : BodyContents = body_contents_of (g.S.Syntax.answers c.args.body.now.syntax.now) c.args.body.now in
     let line : Line = c.line-item.result in
     let r = c.from_residual-in_err-push_str.result in
     c.loop-line.invariant.rest h entries _ r
@@ -42,7 +42,7 @@ returns-in_err-push_str-clause-took g c = λ h entries.
 
 pub loop-line-preserved : goal.loop-line-preserved
 loop-line-preserved g c =
-    let b : BodyContents = contents_of (g.S.Syntax.answers c.args.body.now.syntax.now) c.args.body.now in
+    let b : BodyContents = body_contents_of (g.S.Syntax.answers c.args.body.now.syntax.now) c.args.body.now in
     let s : SyntaxAnswers = b.syntax in
     let line : Line = c.line-item.result in
     let part : Text = c.in_ok-part.part in
@@ -67,7 +67,7 @@ loop-line-preserved g c =
 pub returns-in_err-from_string-clause-took : goal.returns-in_err-from_string-clause-took
 returns-in_err-from_string-clause-took g c = λ h entries.
     let p : Question → Option Answer = both (g.E.Evaluation.promised c.loop-line.evaluation) h in
-    let b : BodyContents = contents_of (g.S.Syntax.answers c.args.body.now.syntax.now) c.args.body.now in
+    let b : BodyContents = body_contents_of (g.S.Syntax.answers c.args.body.now.syntax.now) c.args.body.now in
     let r = c.from_residual-in_err-from_string.result in
     c.loop-line.invariant.rest h entries _ r
     (no-lines p b c.loop-line.continued (string_bytes c.loop-line.text) c.loop-line.line-index c.args.lines.now _ _ r (omega (arith, c.loop-line-test.false))
@@ -76,7 +76,7 @@ returns-in_err-from_string-clause-took g c = λ h entries.
 pub returns-clause-took : goal.returns-clause-took
 returns-clause-took g c = λ h entries.
     let p : Question → Option Answer = both (g.E.Evaluation.promised c.loop-line.evaluation) h in
-    let b : BodyContents = contents_of (g.S.Syntax.answers c.args.body.now.syntax.now) c.args.body.now in
+    let b : BodyContents = body_contents_of (g.S.Syntax.answers c.args.body.now.syntax.now) c.args.body.now in
     c.loop-line.invariant.rest h entries _ _
     (no-lines p b c.loop-line.continued (string_bytes c.loop-line.text) c.loop-line.line-index c.args.lines.now _ _ _ (omega (arith, c.loop-line-test.false))
     (rw c.in_ok-from_string.ensures (took-give p _ (string_bytes c.loop-line.text))))

@@ -2,7 +2,7 @@ use Rattle.std.proofs.Common.{Option}
 use Rattle.just_run_layers.specs.Host.{Answer}
 use Rattle.just_run_layers.specs.Interactions.{Question, both}
 use Rattle.just_run_layers.proofs.InteractionLemmas.{keeps-then, keeps-self, keeps-both, took-then}
-use Rattle.just_recipe_body.specs.Body.{BodyContents, contents_of, time_steps}
+use Rattle.just_recipe_body.specs.Body.{BodyContents, body_contents_of, time_steps}
 use Rattle.just_shell_body.specs.ShellBody.{show_command_steps, timed_steps, unless_dry_steps}
 use Rattle.just_recipe_body.specs.declared.body.Preparation.{Preparation}
 use Rattle.just_shell_body.specs.declared.lines.GroupCommand.{GroupCommand}
@@ -19,7 +19,7 @@ pub returns-in_err-time-clause-took : goal.returns-in_err-time-clause-took
 returns-in_err-time-clause-took g c =
     let e = g.E.Evaluation.promised c.args.evaluation.now in
     let p : Question → Option Answer = both e (g.H.Host.promised c.args.host.now) in
-    let b : BodyContents = contents_of (g.S.Syntax.answers c.args.body.now.syntax.now) c.args.body.now in
+    let b : BodyContents = body_contents_of (g.S.Syntax.answers c.args.body.now.syntax.now) c.args.body.now in
     let prep : Preparation = c.args.preparation.now in
     let r = c.from_residual.result in
     took-exit p (time_steps prep.timestamp_format) (timed_steps b prep c.args.command.now) _ _ c.in_err-time.field-0.0 r c.from_residual.ensures.1 (c.in_err-time.ensures.took e (g.E.Evaluation.requests c.args.evaluation.now))
@@ -30,7 +30,7 @@ returns-in_err-show_command-clause-took g c =
     let requests = g.E.Evaluation.requests c.args.evaluation.now in
     let p : Question → Option Answer = both e (g.H.Host.promised c.args.host.now) in
     let q : Question → Option Answer = both e (g.H.Host.promised c.ask_time.new.host) in
-    let b : BodyContents = contents_of (g.S.Syntax.answers c.args.body.now.syntax.now) c.args.body.now in
+    let b : BodyContents = body_contents_of (g.S.Syntax.answers c.args.body.now.syntax.now) c.args.body.now in
     let prep : Preparation = c.args.preparation.now in
     let command : GroupCommand = c.args.command.now in
     let time = c.in_ok-time.time in
@@ -45,7 +45,7 @@ returns-clause-took g c =
     let p : Question → Option Answer = both e (g.H.Host.promised c.args.host.now) in
     let q : Question → Option Answer = both e (g.H.Host.promised c.ask_time.new.host) in
     let o : Question → Option Answer = both e (g.H.Host.promised c.show_command.new.host) in
-    let b : BodyContents = contents_of (g.S.Syntax.answers c.args.body.now.syntax.now) c.args.body.now in
+    let b : BodyContents = body_contents_of (g.S.Syntax.answers c.args.body.now.syntax.now) c.args.body.now in
     let prep : Preparation = c.args.preparation.now in
     let command : GroupCommand = c.args.command.now in
     let time = c.in_ok-time.time in

@@ -4,7 +4,7 @@ use Rattle.just_run_layers.specs.Interactions.{Question, Interaction, both}
 use Rattle.just_run_layers.proofs.InteractionLemmas.{keeps-self, keeps-both, took-then}
 use Rattle.just_run_layers.specs.declared.environment.EnvironmentChange.{EnvironmentChange}
 use Rattle.std.proofs.Common.{List}
-use Rattle.just_recipe_body.specs.Body.{BodyContents, contents_of, environment_steps}
+use Rattle.just_recipe_body.specs.Body.{BodyContents, body_contents_of, environment_steps}
 use Rattle.just_shell_body.specs.ShellBody.{shell_call, shell_call_steps}
 use Rattle.just_recipe_body.specs.declared.body.Preparation.{Preparation}
 use Rattle.just_recipe_body.specs.declared.judgement.Next.{Next}
@@ -20,7 +20,7 @@ pub returns-in_err-changes-clause-took : goal.returns-in_err-changes-clause-took
 returns-in_err-changes-clause-took g c =
     let h = g.H.Host.promised c.args.host.now in
     let p : Question → Option Answer = both (g.E.Evaluation.promised c.args.evaluation.now) h in
-    let b : BodyContents = contents_of (g.S.Syntax.answers c.args.body.now.syntax.now) c.args.body.now in
+    let b : BodyContents = body_contents_of (g.S.Syntax.answers c.args.body.now.syntax.now) c.args.body.now in
     let prep : Preparation = c.args.preparation.now in
     let command : GroupCommand = c.args.command.now in
     let r = c.from_residual.result in
@@ -32,7 +32,7 @@ returns-in_err-call-clause-took g c =
     let h = g.H.Host.promised c.args.host.now in
     let p : Question → Option Answer = both (g.E.Evaluation.promised c.args.evaluation.now) h in
     let q : Question → Option Answer = both (g.E.Evaluation.promised c.ask_changes.new.evaluation) h in
-    let b : BodyContents = contents_of (g.S.Syntax.answers c.args.body.now.syntax.now) c.args.body.now in
+    let b : BodyContents = body_contents_of (g.S.Syntax.answers c.args.body.now.syntax.now) c.args.body.now in
     let prep : Preparation = c.args.preparation.now in
     let command : GroupCommand = c.args.command.now in
     let r = c.from_residual-in_err-call.result in
@@ -46,7 +46,7 @@ returns-clause-took g c =
     let p : Question → Option Answer = both (g.E.Evaluation.promised c.args.evaluation.now) h in
     let e1 = g.E.Evaluation.promised c.ask_changes.new.evaluation in
     let q : Question → Option Answer = both e1 h in
-    let b : BodyContents = contents_of (g.S.Syntax.answers c.args.body.now.syntax.now) c.args.body.now in
+    let b : BodyContents = body_contents_of (g.S.Syntax.answers c.args.body.now.syntax.now) c.args.body.now in
     let prep : Preparation = c.args.preparation.now in
     let command : GroupCommand = c.args.command.now in
     let r = c.call_shell.result in

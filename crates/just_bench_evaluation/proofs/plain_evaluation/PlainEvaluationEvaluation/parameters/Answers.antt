@@ -1,4 +1,4 @@
-use Rattle.just_run_layers.specs.Evaluation.{contents_of}
+use Rattle.just_run_layers.specs.Evaluation.{context_contents_of}
 use Rattle.just_run_layers.specs.Host.{bound_to}
 use Rattle.just_bench_evaluation.specs.Answered.{run_parameters, run_value}
 use Rattle.just_bench_evaluation.proofs.Binding.{answer_binds}
@@ -7,8 +7,8 @@ use Rattle.just_bench_evaluation.proofs.plain_evaluation.PlainEvaluationEvaluati
 
 pub returns-clause-binds : goal.returns-clause-binds
 returns-clause-binds c =
-    answer_binds (run_value (contents_of c.args.context.now) c.args.is_dependency) c.args.scope.now c.args.parameters.now c.args.groups.now c.bind_all.result (rw c.as_slice.ensures at c.bind_all.ensures)
+    answer_binds (run_value (context_contents_of c.args.context.now) c.args.is_dependency) c.args.scope.now c.args.parameters.now c.args.groups.now c.bind_all.result (rw c.as_slice.ensures at c.bind_all.ensures)
 
 pub returns-clause-answers : goal.returns-clause-answers
 returns-clause-answers c =
-    gives_answer bound_to (run_parameters (contents_of c.args.context.now) c.args.is_dependency c.args.scope.now c.args.groups.now c.args.parameters.now) c.bind_all.result (rw c.as_slice.ensures at c.bind_all.ensures)
+    gives_answer bound_to (run_parameters (context_contents_of c.args.context.now) c.args.is_dependency c.args.scope.now c.args.groups.now c.args.parameters.now) c.bind_all.result (rw c.as_slice.ensures at c.bind_all.ensures)

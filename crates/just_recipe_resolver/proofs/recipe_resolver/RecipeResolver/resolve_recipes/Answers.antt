@@ -14,7 +14,7 @@ use Rattle.just_module_contents.specs.Resolved.{AreNew, HasPriors, unresolved_nu
 use Rattle.just_module_contents.specs.Standing.{AreStanding}
 use Rattle.just_module_contents.proofs.Keeping.{kept_all, kept_different, kept_in, kept_number, kept_once}
 use Rattle.just_module_recipes.specs.Linked.{HasDisabled}
-use Rattle.just_module_recipes.specs.Links.{BreaksLinks, Disables, Stands, around}
+use Rattle.just_module_recipes.specs.Links.{BreaksLinks, Disables, Stands, around_recipes}
 use Rattle.just_names.specs.Index.{AreDifferent}
 use Rattle.just_recipe.specs.declared.dependency.UnresolvedDependency.{UnresolvedDependency}
 use Rattle.just_recipe.specs.declared.recipe.Recipe.{Recipe}
@@ -61,7 +61,7 @@ resolve_kept-requires-clause-covered g c =
 pub returns-in_err-linked-clause-named : goal.returns-in_err-linked-clause-named
 returns-in_err-linked-clause-named g c =
     let same = c.in_ok-kept.ensures ∙ ap kept_recipes c.in_ok-definitions.ensures in
-    let it = around c.args.absent_modules.now c.args.modules.now c.args.recipes in
+    let it = around_recipes c.args.absent_modules.now c.args.modules.now c.args.recipes in
     let by = c.resolving_by-resolving.result in
     IfErr-weaker c.from_residual-in_err-linked.result (λ e. Told it e (g.S.Syntax.answers by.meanings.syntax.now) (g.E.ConstantEvaluation.answers by.among.evaluation.now) (basis_of by) (recipes_in c.in_ok-kept.kept)) _
     (λ e h. along (Told it e) (ap g.S.Syntax.answers c.resolving_by-resolving.ensures.syntax) (ap g.E.ConstantEvaluation.answers c.resolving_by-resolving.ensures.evaluation) c.resolving_by-resolving.ensures.basis same h) (search rules)
@@ -69,19 +69,19 @@ returns-in_err-linked-clause-named g c =
 pub returns-clause-kept : goal.returns-clause-kept
 returns-clause-kept g c =
     let same = c.in_ok-kept.ensures ∙ ap kept_recipes c.in_ok-definitions.ensures in
-    let it = around c.args.absent_modules.now c.args.modules.now c.args.recipes in
+    let it = around_recipes c.args.absent_modules.now c.args.modules.now c.args.recipes in
     subst₂ (λ rs (b : Basis). Keeps (BreaksLinks b.settings.lists rs it)) same c.resolving_by-resolving.ensures.basis c.in_ok-linked.ensures.kept
 
 pub returns-clause-own : goal.returns-clause-own
 returns-clause-own g c =
     let same = c.in_ok-kept.ensures ∙ ap kept_recipes c.in_ok-definitions.ensures in
-    let it = around c.args.absent_modules.now c.args.modules.now c.args.recipes in
+    let it = around_recipes c.args.absent_modules.now c.args.modules.now c.args.recipes in
     along (OwnKept it) (ap g.S.Syntax.answers c.resolving_by-resolving.ensures.syntax) (ap g.E.ConstantEvaluation.answers c.resolving_by-resolving.ensures.evaluation) c.resolving_by-resolving.ensures.basis same c.in_ok-linked.ensures.own
 
 pub returns-clause-resolved : goal.returns-clause-resolved
 returns-clause-resolved g c =
     let same = c.in_ok-kept.ensures ∙ ap kept_recipes c.in_ok-definitions.ensures in
-    let it = around c.args.absent_modules.now c.args.modules.now c.args.recipes in
+    let it = around_recipes c.args.absent_modules.now c.args.modules.now c.args.recipes in
     let linked = c.in_ok-linked.linked in
     record {
       standing = recipes_in linked.standing;
