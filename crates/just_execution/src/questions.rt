@@ -74,7 +74,7 @@ pub fn ask<'src, S: Syntax, E: Evaluation, H: Host>(
     requires resolved { All IsResolved recipes.now }
     requires callable { IsCallable (S.answers scopes.now.syntax.now) scopes.now.modules recipes.now task.now }
     ensures keeps { KeepsPromises (E.promised evaluation.old) (E.promised evaluation.new) }
-    ensures keepshost { KeepsPromises (H.promised host.old) (H.promised host.new) }
+    ensures keeps_host { KeepsPromises (H.promised host.old) (H.promised host.new) }
     ensures took { let first = log_of (H.entries host.old) (E.requests evaluation.old) in
         let last = log_of (H.entries host.new) (E.requests evaluation.new) in
         let scene = scene_in (S.answers scopes.now.syntax.now) scopes.now recipes.now in
