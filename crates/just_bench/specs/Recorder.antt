@@ -16,7 +16,7 @@ pub record Recording : Type 0 where
   pub script : Script
   pub left : Option ℕ
 
--- calls are call_counted from 1: how many are answered before this one; none where no call has the number
+-- calls are counted from 1: how many are answered before this one; none where no call has the number
 abbrev pub before : ℕ → Option ℕ
 before zero = None
 before (suc n) = Some n
@@ -36,7 +36,7 @@ refuses (Some n) = n == 0
 abbrev pub is_refused : Recording → Bool
 is_refused r = refuses r.left
 
--- a call is call_counted
+-- a call is counted
 abbrev pub less : Option ℕ → Option ℕ
 less None = None
 less (Some n) = before n
@@ -92,11 +92,11 @@ after_answer script entry = record {
   timestamps = left_in_queue (is_timestamp entry) script.timestamps;
 }
 
--- a call that was answered: it is call_counted and kept, and its answer is taken from the script
+-- a call that was answered: it is counted and kept, and its answer is taken from the script
 abbrev pub after_call : Entry → Recording → Recording
 after_call entry r = record { entries = r.entries ++ entry ∷ []; script = after_answer r.script entry; left = less r.left }
 
--- What becomes of a call: it was not to be refused, and is answered and kept; or memory is refused, and it is only call_counted.
+-- What becomes of a call: it was not to be refused, and is answered and kept; or memory is refused, and it is only counted.
 abbrev pub IsCalled : Entry → Recording → Option Answer → Recording → Type 0
 IsCalled entry old None new = new ≡ call_counted old
 IsCalled entry old (Some answer) new = (is_refused old ≡ false) × (answer ≡ answer_of old.script entry) × (new ≡ after_call entry old)

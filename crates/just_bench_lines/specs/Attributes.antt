@@ -165,7 +165,7 @@ marked name (Some it) = Some (record { named = record { name = name; attribute =
 -- an attribute with something in parentheses
 abbrev pub with_argument : List Lexeme → Name → Option Mark
 with_argument all name =
-    if bytes_eq (lexeme name.token) (codes "group_in_line") then marked name (group_in_line all 3)
+    if bytes_eq (lexeme name.token) (codes "group") then marked name (group_in_line all 3)
     else (if bytes_eq (lexeme name.token) (codes "doc") then marked name (doc all 3)
     else (if bytes_eq (lexeme name.token) (codes "arg") then arg all name 3
     else None))

@@ -96,7 +96,7 @@ with_parameters all quiet name (Some found) = with_dependencies quiet name found
 unfoldable pub after_name : List Lexeme → Bool → Name → ℕ → Option Heading
 after_name all quiet name at = with_parameters all quiet name (parameters all at)
 
--- a heading_in_line whose name stands at a place
+-- a heading whose name stands at a place
 abbrev pub heading_at : List Lexeme → Bool → ℕ → Option Name → Option Heading
 heading_at all quiet at None = None
 heading_at all quiet at (Some name) = after_name all quiet name (at + 1)

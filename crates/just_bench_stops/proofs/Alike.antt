@@ -22,7 +22,7 @@ Alike stop part all at None (Err e) = Unit {0}
 Alike stop part all at (Some found) (Ok end) = (found.1 ≡ end) × GoesOn all at end
 Alike stop part all at (Some found) (Err e) = GoesOn all at found.1 × Stuck stop part all found.1
 
--- read_parts and their end
+-- parts and their end
 abbrev pub Both : {A : Type 0} → Bool → List Lexeme → ℕ → Option (List A × ℕ) → Result ℕ ℕ → Type 0
 Both may_end all start None (Ok end) = ⊥
 Both may_end all start None (Err e) = Unit {0}

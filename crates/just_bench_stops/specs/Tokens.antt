@@ -1,4 +1,4 @@
--- What stands at a lexeme_place of a line, as a token.
+-- What stands at a place of a line, as a token.
 use Rattle.std.specs.Prelude.{ℕ, ◌-◌, List, [], length, Option, Some, None}
 use Rattle.std.specs.List.{slice_get}
 use Rattle.just_names.specs.Token.{Place}
@@ -24,6 +24,6 @@ abbrev pub or_rest : Place → Option Lexeme → Place
 or_rest rest None = rest
 or_rest rest (Some l) = l.token
 
--- what stands at a lexeme_place among the lexemes from one column to another
+-- what stands at a place among the lexemes from one column to another
 abbrev pub told_at : Text → Text → TextLine → ℕ → ℕ → ℕ → Place
 told_at path text line start end at = or_rest (rest_of path text line end) (slice_get (lexemes_between path text line start end) at)

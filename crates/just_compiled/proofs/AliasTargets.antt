@@ -152,7 +152,7 @@ module _ (recipes standing : List (Recipe UnresolvedDependency)) (it : Around) (
         go None e (Some x) f = absurd (lost (to_recipe (near_or path.front refl (λ g. let wrong : Some x ≡ None = sym f ∙ g in cc))))
         go None e None f = refl
 
-  -- so the same alias_targets are unknown
+  -- so the same targets are unknown
   pub unknown_on : (aliases : List (Alias Namepath)) (c : Cause) → UnknownTargets t aliases c → BreaksAliasTargets (HasTarget recipes it) aliases c
   unknown_on aliases _ (unknown_target {alias} there lost) = unknown_target there (nothing_meant alias.target (means_none (alias_meant t alias.target) lost))
 

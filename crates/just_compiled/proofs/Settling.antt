@@ -140,7 +140,7 @@ module _ (held : List (Recipe Dependency)) where
       go None g = of (find name (out-Justfile j).disabled_recipes) refl g
       go (Some key) g = cc
 
-  -- so is what is around_recipes the recipes of a module in which such modules stand
+  -- so is what is around the recipes of a module in which such modules stand
   pub around_settled : (absent : List (Text × Text)) (modules : List Justfile) → ((inner : Justfile) → Contains modules inner → IsSettled held inner) → AreSettled (around_recipes absent modules held)
   around_settled absent modules all = record { held = λ path n e. numbers path n (end_of_names absent modules (map text_of_name path.front)) refl e; disabled = λ path set e. sets path set (end_of_names absent modules (map text_of_name path.front)) refl e }
     where

@@ -1,4 +1,4 @@
--- What bars a recipe at a place is what disables the recipe of its name, and the sets that are gathered_paths are exactly that.
+-- What bars a recipe at a place is what disables the recipe of its name, and the sets that are gathered are exactly that.
 use Rattle.std.proofs.Common.{◌≡◌, ℕ, ◌+◌, ◌<◌, List, [], ◌∷◌, length, get_or, slice_index, set, refl, sym, ◌∙◌, ap, subst, arith, inl, inr, ◌↔◌, get_or-set_same, get_or-set_other}
 use Rattle.std.proofs.lemmas.Bool.{cases_lt}
 use Rattle.std.proofs.lemmas.List.{get_or_default}

@@ -127,7 +127,7 @@ pub exited : {A : Type 0} (r : Result A Halt) (e : Halt) → IsErrAnd r (λ y. y
 exited (Ok x) e h = absurd h
 exited (Err y) e h = ap (λ z. Err z) h
 
--- one question: one to the evaluator that is not kept_call, one for variables, and one to the host
+-- one question: one to the evaluator that is not kept, one for variables, and one to the host
 pub took-asked : {A : Type 0} (e : Inquiry → Option Answer) (h : Entry → Option Answer) (x : Inquiry) (g : Answer → Interaction A) (a : Answer) (entries : List Entry) (before later : List ScopeRequest) (new : Log) (r : Result A Halt) →
     requests_of x ≡ [] → Answers (e x) (Some a) → later ≡ before → HasTrace (both e h) (g a) (log_of entries later) new r → HasTrace (both e h) (Ask (ToEvaluator x) g) (log_of entries before) new r
 took-asked e h x g a entries before later new r none l n t =

@@ -33,7 +33,7 @@ KeepsPromises {Q} old new = (question : Q) (answer : Answer) → old question �
 abbrev pub Answers : Option Answer → Option Answer → Type 0
 Answers promise given = (a b : Answer) → promise ≡ Some a → given ≡ Some b → a ≡ b
 
--- a call is kept_call where it is answered
+-- a call is kept where it is answered
 abbrev pub kept_call : Entry → Option Answer → List Entry
 kept_call entry None = []
 kept_call entry (Some answer) = entry ∷ []

@@ -67,7 +67,7 @@ BreaksPlace given files joined p links told = BreaksContents (layers_at given (p
 abbrev pub names_of_labels : List Label → List (Option Name)
 names_of_labels = map (λ (l : Label). l.name)
 
--- what there is around_recipes the recipes of the module at a place, whose paths lead through these justfiles, under labels, where these recipes are held
+-- what there is around the recipes of the module at a place, whose paths lead through these justfiles, under labels, where these recipes are held
 abbrev pub around_place : Given → Files → Joined → ℕ → List Justfile → List Label → List (Recipe Dependency) → Around
 around_place given files joined p inner labels held = around_recipes (notes_of_place given.syntax.enabled files joined p).absent_modules (by_name (with_labels inner labels)) held
 

@@ -42,7 +42,7 @@ pub record GoesOn (answers : SyntaxAnswers) (relative text : Text) (given after 
   pub rising : AreRising given (numbers_of_items ast.items) after
   pub spent : after ≡ given + answers.spends relative text
 
--- how many numbers the text of a file takes_numbers
+-- how many numbers the text of a file takes
 abbrev pub takes_numbers : SyntaxAnswers → ScannedFile → ℕ
 takes_numbers answers f = answers.spends f.relative f.text
 
@@ -73,7 +73,7 @@ pub record AreRead (answers : SyntaxAnswers) (files : List ScannedFile) (texts :
   pub spent : texts.numerator ≡ spent_on answers files texts.asts.items
   pub few : texts.numerator ≤ 2 ^ 64
 
--- What is read of the text at a place has these numbers: it was read before and is taken, or it takes_numbers so many numbers now.
+-- What is read of the text at a place has these numbers: it was read before and is taken, or it takes so many numbers now.
 pub data TakesText (place spends : ℕ) (old new : ReadTexts) (ns : List ℕ) : Type 0 where
   was_read : (ast : Ast) → slice_get old.asts.items place ≡ Some (Some ast) → ns ≡ numbers_of_items ast.items → new.asts.items ≡ set old.asts.items place None → new.numerator ≡ old.numerator → TakesText place spends old new ns
   is_read : new.asts.items ≡ old.asts.items → AreRising old.numerator ns new.numerator → new.numerator ≡ old.numerator + spends → TakesText place spends old new ns

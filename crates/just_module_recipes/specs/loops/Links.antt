@@ -8,7 +8,7 @@ use Rattle.just_recipe.specs.declared.dependency.Dependency.{Dependency}
 use Rattle.just_recipe.specs.declared.recipe.Recipe.{Recipe}
 use Rattle.just_module_recipes.specs.Links.{Around, BreaksAliases, BreaksLinks, BreaksStanding, IsPastLimitsBy, around_recipes}
 
--- what is around_recipes the recipes of a compiled module
+-- what is around the recipes of a compiled module
 abbrev pub around_of : Justfile → List (Recipe Dependency) → Around
 around_of j held = around_recipes (out-Justfile j).absent_modules (out-Justfile j).modules held
 

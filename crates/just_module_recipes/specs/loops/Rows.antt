@@ -22,7 +22,7 @@ use Rattle.just_recipe.specs.declared.dependency.UnresolvedDependency.{Unresolve
 use Rattle.just_recipe.specs.declared.recipe.Recipe.{Recipe}
 use Rattle.just_module_recipes.specs.Rows.{keys_at}
 
--- what the code has around_recipes a module's recipes
+-- what the code has around a module's recipes
 abbrev pub around_by : Surroundings → Around
 around_by it = around_recipes it.absent.now it.modules.now it.recipes.now
 
@@ -59,7 +59,7 @@ pub record AreRecipeRows (recipes : List (Recipe UnresolvedDependency)) (it : Ar
   pub count : length rows ≡ n
   pub each : (k : ℕ) → k < n → AreTargets recipes it (recipe_at recipes k).dependencies (get_or rows k [])
 
--- the same, whatever there is around_recipes the recipes
+-- the same, whatever there is around the recipes
 abbrev pub HasTargets : List (Recipe UnresolvedDependency) → ℕ → List Target → Type 0
 HasTargets recipes place row = (it : Around) × AreTargets recipes it (recipe_at recipes place).dependencies row
 
