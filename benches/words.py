@@ -94,7 +94,9 @@ def missing():
 
 def doubled():
     """The words that more than one file of the specifications defines, each with its files, and how many words there are."""
-    defined = re.compile(r"^(?:\w+ )*pub (?:\w+ )*?([\w\-«»]+) *[:({]", re.MULTILINE)
+    top = r"(?:\w+ )*pub (?:\w+ )*?"
+    in_module = r" +(?:abbrev |unfoldable )pub | +pub (?:data |record )"
+    defined = re.compile(rf"^(?:{top}|{in_module})([\w\-«»]+) *[:({{]", re.MULTILINE)
     files = defaultdict(set)
     for path in sorted((TOP / "crates").glob("*/specs/**/*.antt")):
         for word in defined.findall(path.read_text()):

@@ -12,13 +12,13 @@ use Rattle.just_bench_lines.specs.Path.{path}
 use Rattle.just_bench_lines.specs.Places.{stands, is_and, is_paren_close, is_paren_open, is_star}
 
 -- an argument, and the place after it
-abbrev pub argument_by : Bool → Option Found → Option (DependencyArgument × ℕ)
-argument_by starred None = None
-argument_by starred (Some found) = Some (record { expression = found.made; starred = starred }, found.end)
+abbrev pub argument_in_line : Bool → Option Found → Option (DependencyArgument × ℕ)
+argument_in_line starred None = None
+argument_in_line starred (Some found) = Some (record { expression = found.made; starred = starred }, found.end)
 
 -- an argument: `*` or nothing, and an expression that is no sum
 unfoldable pub argument : List Lexeme → ℕ → Option (DependencyArgument × ℕ)
-argument all at = if stands is_star all at then argument_by true (expression false all (at + 1)) else argument_by false (expression false all at)
+argument all at = if stands is_star all at then argument_in_line true (expression false all (at + 1)) else argument_in_line false (expression false all at)
 
 -- the arguments up to a `)`, and its place
 abbrev pub arguments : List Lexeme → ℕ → Option (List DependencyArgument × ℕ)

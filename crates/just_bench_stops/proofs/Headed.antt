@@ -154,17 +154,17 @@ module _ (all : List Lexeme) where
   Arguments at = Alike is_paren_close lines.argument all at
 
   argument_found : (at n : ℕ) (starred : Bool) (found : Option Found) (end : Result ℕ ℕ) → at < n → spec.EndsWith found end → IfSome found (λ f. n ≤ f.end) → IfSome found (λ f. f.end ≤ length all)
-      → Arguments at (lines.argument_by starred found) end
+      → Arguments at (lines.argument_in_line starred found) end
   argument_found at n starred None (Ok end) h e from within = absurd e
   argument_found at n starred None (Err stop) h e from within = tt
   argument_found at n starred (Some found) (Err stop) h e from within = absurd e
   argument_found at n starred (Some found) (Ok end) h e from within = (e, record { onward = omega (arith, h, e, from); within = omega (arith, e, within) })
 
-  operand_alike : (at n : ℕ) (starred : Bool) → at ≤ n → Arguments at (lines.argument_by starred (spec.expression false all n)) (spec.expression_end false all n)
+  operand_alike : (at n : ℕ) (starred : Bool) → at ≤ n → Arguments at (lines.argument_in_line starred (spec.expression false all n)) (spec.expression_end false all n)
   operand_alike at n starred h =
       argument_found at (n + 1) starred (spec.expression false all n) (spec.expression_end false all n) (omega (arith, h)) (expression_agrees false all n) (expression_from false all n) (expression_within false all n)
 
-  star_by : (b : Bool) (at : ℕ) → Arguments at (if b then lines.argument_by true (spec.expression false all (at + 1)) else lines.argument_by false (spec.expression false all at))
+  star_by : (b : Bool) (at : ℕ) → Arguments at (if b then lines.argument_in_line true (spec.expression false all (at + 1)) else lines.argument_in_line false (spec.expression false all at))
       (if b then spec.expression_end false all (at + 1) else spec.expression_end false all at)
   star_by true at = operand_alike at (at + 1) true (omega arith)
   star_by false at = operand_alike at at false (omega arith)
@@ -177,18 +177,18 @@ module _ (all : List Lexeme) where
   arguments_both at = parts_both false is_paren_close lines.argument (part_end part_kind.Argument) all (λ n within close. argument_alike n) at
 
   -- one without a star, and one with it
-  plain_argument : (at : ℕ) → stands is_star all at ≡ false → lines.argument all at ≡ lines.argument_by false (spec.expression false all at)
+  plain_argument : (at : ℕ) → stands is_star all at ≡ false → lines.argument all at ≡ lines.argument_in_line false (spec.expression false all at)
   unfolding lines.argument
-  plain_argument at h = ap (λ b. if b then lines.argument_by true (spec.expression false all (at + 1)) else lines.argument_by false (spec.expression false all at)) h
+  plain_argument at h = ap (λ b. if b then lines.argument_in_line true (spec.expression false all (at + 1)) else lines.argument_in_line false (spec.expression false all at)) h
 
-  starred_argument : (at : ℕ) → stands is_star all at ≡ true → lines.argument all at ≡ lines.argument_by true (spec.expression false all (at + 1))
+  starred_argument : (at : ℕ) → stands is_star all at ≡ true → lines.argument all at ≡ lines.argument_in_line true (spec.expression false all (at + 1))
   unfolding lines.argument
-  starred_argument at h = ap (λ b. if b then lines.argument_by true (spec.expression false all (at + 1)) else lines.argument_by false (spec.expression false all at)) h
+  starred_argument at h = ap (λ b. if b then lines.argument_in_line true (spec.expression false all (at + 1)) else lines.argument_in_line false (spec.expression false all at)) h
 
   abbrev Starred : Bool → Option (DependencyArgument × ℕ) → Type 0
   Starred b o = IfSome o (λ f. f.0.starred ≡ b)
 
-  by_starred : (b : Bool) (found : Option Found) → Starred b (lines.argument_by b found)
+  by_starred : (b : Bool) (found : Option Found) → Starred b (lines.argument_in_line b found)
   by_starred b None = tt
   by_starred b (Some found) = refl
 
@@ -514,7 +514,7 @@ module _ (all : List Lexeme) where
       let close = only is_colon is_paren_close kind.Colon colon_is refl (slice_get all at) colon in
       let none = no_operand_of all at (slice_get all at) refl within (only is_colon begins kind.Colon colon_is refl (slice_get all at) colon) in
       made.parts_fail false is_paren_close lines.argument all at [] at (made.parts_start false is_paren_close lines.argument all at [] refl) within close
-      (sym (plain_argument at star ∙ ap (lines.argument_by false) none))
+      (sym (plain_argument at star ∙ ap (lines.argument_in_line false) none))
 
   -- a path and what stands behind it, where that reads alike
   pathed_by : (b star : Bool) (at : ℕ) (p : Namepath) (n : ℕ) (more : ℕ → Result ℕ ℕ) → separated all n ≡ b → Exact at (lines.with_arguments star p (lines.arguments all n)) (more n)

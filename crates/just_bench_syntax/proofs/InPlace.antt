@@ -1,17 +1,17 @@
 -- Lists whose elements are changed in place.
 use Rattle.std.proofs.Common.{zero, suc, ◌≡◌, ℕ, ◌+◌, ◌<◌, ◌∙◌, ap, refl, List, [], ◌∷◌, ◌++◌, length, map, take, drop, get_or, set, arith}
 use Rattle.std.proofs.lemmas.List.{append-nil, drop_all, take_all}
-use Rattle.just_bench_syntax.specs.Items.{at_last}
+use Rattle.just_bench_syntax.specs.Items.{with_last}
 
 -- the last of them
-pub last_changed : {A : Type 0} (f : A → A) (xs : List A) (k : ℕ) (x y : A) → k + 1 ≡ length xs → x ≡ get_or xs k x → y ≡ f x → set xs k y ≡ at_last f xs
+pub last_changed : {A : Type 0} (f : A → A) (xs : List A) (k : ℕ) (x y : A) → k + 1 ≡ length xs → x ≡ get_or xs k x → y ≡ f x → set xs k y ≡ with_last f xs
 last_changed f [] k x y count here is = absurd (omega (arith, count))
 last_changed f (a ∷ []) zero x y count here is = ap (λ z. z ∷ []) is ∙ ap (λ z. f z ∷ []) here
 last_changed f (a ∷ []) (suc k) x y count here is = absurd (omega (arith, count))
 last_changed f (a ∷ b ∷ rest) zero x y count here is = absurd (omega (arith, count))
 last_changed f (a ∷ b ∷ rest) (suc k) x y count here is = ap (λ zs. a ∷ zs) (last_changed f (b ∷ rest) k x y (omega (arith, count)) here is)
 
-pub none_last : {A : Type 0} (f : A → A) (xs : List A) → length xs ≡ 0 → xs ≡ at_last f xs
+pub none_last : {A : Type 0} (f : A → A) (xs : List A) → length xs ≡ 0 → xs ≡ with_last f xs
 none_last f [] none = refl
 none_last f (x ∷ rest) none = absurd (omega (arith, none))
 

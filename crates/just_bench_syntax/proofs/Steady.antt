@@ -307,7 +307,7 @@ line_proper line (item.Recipe r) p = record {
 }
 line_proper line _ p = p
 
-last_proper : (f : Item → Item) (xs : List Item) → ((x : Item) → IsProper x → IsProper (f x)) → All IsProper xs → All IsProper (items.at_last f xs)
+last_proper : (f : Item → Item) (xs : List Item) → ((x : Item) → IsProper x → IsProper (f x)) → All IsProper xs → All IsProper (items.with_last f xs)
 last_proper f [] keeps all k d within = absurd (omega (arith, within))
 last_proper f (x ∷ []) keeps all zero d within = keeps x (all 0 d (omega arith))
 last_proper f (x ∷ []) keeps all (suc k) d within = absurd (omega (arith, within))

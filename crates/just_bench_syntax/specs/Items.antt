@@ -111,10 +111,10 @@ add_line line (item.Recipe r) = item.Recipe (record r { body = r.body ++ line �
 add_line line it = it
 
 -- the last of a list changed
-abbrev pub at_last : {A : Type 0} → (A → A) → List A → List A
-at_last f [] = []
-at_last f (x ∷ []) = f x ∷ []
-at_last f (x ∷ y ∷ rest) = x ∷ at_last f (y ∷ rest)
+abbrev pub with_last : {A : Type 0} → (A → A) → List A → List A
+with_last f [] = []
+with_last f (x ∷ []) = f x ∷ []
+with_last f (x ∷ y ∷ rest) = x ∷ with_last f (y ∷ rest)
 
 -- how many blanks and tabs are dropped from a line that begins with so many, if it may stand in a body there
 abbrev pub dropped : Body → TextLine → ℕ → Option ℕ
@@ -130,7 +130,7 @@ begun_body line size it = it
 abbrev pub with_body_line : List ℕ → List ℕ → TextLine → ℕ → ℕ → Reading → Option BodyLine → Result Reading Place
 with_body_line path text line size start reading None = Err (body_stop path text line start)
 with_body_line path text line size start reading (Some made) =
-    Ok (record reading { items = at_last (add_line made.line) reading.items; lists = reading.lists ++ made.lists; body = begun_body line size reading.body })
+    Ok (record reading { items = with_last (add_line made.line) reading.items; lists = reading.lists ++ made.lists; body = begun_body line size reading.body })
 
 -- an indented line: one of a body, or told as a whole where none may stand
 abbrev pub with_dropped : List ℕ → List ℕ → TextLine → ℕ → Reading → Option ℕ → Result Reading Place

@@ -203,7 +203,7 @@ fn push_line<'src>(item: &mut Item<'src>, line: Line<'src>) -> Result<(), AllocE
 // Puts a line at the end of the body of the last item, where that is a recipe.
 #[tactic(auto, using(crate::proofs::InPlace::last_changed, crate::proofs::InPlace::none_last))]
 fn push_last<'src>(items: &mut Vec<Item<'src>>, line: Line<'src>) -> Result<(), AllocError>
-    ensures { OnOk result (items.new.items ≡ spec.at_last (spec.add_line line.entry) items.old.items) }
+    ensures { OnOk result (items.new.items ≡ spec.with_last (spec.add_line line.entry) items.old.items) }
 {
     match items.len().checked_sub(1) {
         Some(last) => push_line(&mut items[last], line),
@@ -217,7 +217,7 @@ fn push_body<'src>(
     items: &mut Sequence<Item<'src>>,
     line: Line<'src>,
 ) -> Result<(), AllocError>
-    ensures { OnOk result (items.new ≡ spec.at_last (spec.add_line line.entry) items.old) }
+    ensures { OnOk result (items.new ≡ spec.with_last (spec.add_line line.entry) items.old) }
 {
     let mut all = replace(items, Sequence::new(alloc)).into_vec();
     push_last(&mut all, line)?;

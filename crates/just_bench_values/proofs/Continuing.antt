@@ -15,7 +15,7 @@ use Rattle.just_table.specs.Entries.{find}
 use Rattle.just_bench_values.specs.Lookup.{constant_values, functions_in, local_values}
 use Rattle.just_bench_values.specs.loops.Lookup.{in_called}
 use Rattle.just_bench_values.specs.Sink.{sent}
-use Rattle.just_bench_values.specs.loops.Tasks.{Goes, IsPlaceOfOne, call_in, cost, ran, value_in, values_in}
+use Rattle.just_bench_values.specs.loops.Tasks.{Goes, IsPlaceOfOne, call_in, cost, ran_tasks, frame_value, values_in}
 use Rattle.just_bench_values.specs.Values.{bound, one_after_another, value_with}
 use Rattle.just_bench_values.specs.declared.sink.Sink.{Sink}
 use Rattle.just_bench_values.specs.declared.sink.Sink.TheVariants as sink
@@ -38,7 +38,7 @@ module _ (a : Among) (ts : List Task) (f : Frame) (s : Sink) where
   functions = functions_in a.functions
 
   abbrev next : Sink → Option Sink
-  next s = ran a ts f s
+  next s = ran_tasks a ts f s
 
   -- the first of some expressions, and the others
   module _ (all rest : Bor (List Expression)) (first : Bor Expression) (is : all.now ≡ first.now ∷ rest.now) where
@@ -57,7 +57,7 @@ module _ (a : Among) (ts : List Task) (f : Frame) (s : Sink) where
 
     pub goes_elements : Goes a (at (task.Elements (left_of all) ∷ ts) f s) (at (task.Value first ∷ task.Elements (left_of rest) ∷ ts) f s)
     goes_elements = record {
-      same = of_elements next s (value_in a f first.now) (values_in a f rest.now) ∙ ap (λ es. option_and_then (λ vs. next (sent s (one_after_another vs))) (values_in a f es)) (sym is);
+      same = of_elements next s (frame_value a f first.now) (values_in a f rest.now) ∙ ap (λ es. option_and_then (λ vs. next (sent s (one_after_another vs))) (values_in a f es)) (sym is);
       less = omega (arith, whole);
       within = within_elements;
     }
@@ -70,7 +70,7 @@ module _ (a : Among) (ts : List Task) (f : Frame) (s : Sink) where
     pub goes_argument : (name : Bor Name) (values : List (List Text)) →
         Goes a (at (task.Call (pending name all values) ∷ ts) f s) (at (task.Value first ∷ task.Keep (pending name rest values) s ∷ ts) f (sink.Texts []))
     goes_argument name values = record {
-      same = of_argument next s (call_in a f (text_of_name name.now)) values (value_in a f first.now) (values_in a f rest.now)
+      same = of_argument next s (call_in a f (text_of_name name.now)) values (frame_value a f first.now) (values_in a f rest.now)
           ∙ ap (λ es. option_and_then (λ value. next (sent s value)) (option_and_then (λ more. call_in a f (text_of_name name.now) (values ++ more)) (values_in a f es))) (sym is);
       less = omega (arith, whole);
       within = within_argument;
@@ -95,7 +95,7 @@ module _ (a : Among) (ts : List Task) (f : Frame) (s : Sink) where
       within = within_body;
     }
       where
-        into_body : value_in a inside body.now ≡ value_with (f.calls - 1) (functions_by_name functions) (constant_values a.constants) (bound g.parameters values) g.body
+        into_body : frame_value a inside body.now ≡ value_with (f.calls - 1) (functions_by_name functions) (constant_values a.constants) (bound g.parameters values) g.body
         into_body = λ i. value_with (calls i) (functions_by_name functions) (constant_values a.constants) (locals i) (is i)
 
         same_cost : cost functions inside.calls (parts body.now) ≡ cost functions (f.calls - 1) (parts g.body)

@@ -18,7 +18,7 @@ use Rattle.just_parts.specs.Evaluator.{FaultsAt}
 use Rattle.just_parts.specs.Told.{IsToldIn, nowhere}
 use Rattle.just_bench_values.specs.Lookup.{functions_in}
 use Rattle.just_bench_values.specs.Sink.{sent, sent_one}
-use Rattle.just_bench_values.specs.loops.Tasks.{Advances, Goes, IsPlaceOfOne, Sends, call_in, cost, ran, value_in, values_in, variable_in, with_sum}
+use Rattle.just_bench_values.specs.loops.Tasks.{Advances, Goes, IsPlaceOfOne, Sends, call_in, cost, ran_tasks, frame_value, values_in, variable_in, with_sum}
 use Rattle.just_bench_values.specs.Values.{one_after_another, shape_evaluated}
 use Rattle.just_bench_values.specs.declared.sink.Sink.{Sink}
 use Rattle.just_bench_values.specs.declared.sink.Sink.TheVariants as sink
@@ -57,7 +57,7 @@ module _ (a : Among) (ts : List Task) (f : Frame) where
   functions = functions_in a.functions
 
   abbrev next : Sink → Option Sink
-  next s = ran a ts f s
+  next s = ran_tasks a ts f s
 
   module _ (e : Bor Expression) (s : Sink) where
     abbrev from : State
@@ -151,8 +151,8 @@ module _ (a : Among) (ts : List Task) (f : Frame) where
 pub goes_sum : (a : Among) (ts : List Task) (f : Frame) (e : Bor Expression) (s : Sink) (lhs rhs : Bor Expression) → (out-Expression e.now).shape ≡ shape.Concatenation lhs.now rhs.now →
     Goes a (at (task.Value e ∷ ts) f s) (with_sum lhs rhs (at ts f s))
 goes_sum a ts f e (sink.Texts texts) lhs rhs is = record {
-  same = of_sum_kept (λ s. ran a ts f s) texts (value_in a f lhs.now) (value_in a f rhs.now)
-      ∙ ap (option_and_then (λ value. ran a ts f (sent (sink.Texts texts) value))) (sym (branch.at_Concatenation a f e.now lhs.now rhs.now is));
+  same = of_sum_kept (λ s. ran_tasks a ts f s) texts (frame_value a f lhs.now) (frame_value a f rhs.now)
+      ∙ ap (option_and_then (λ value. ran_tasks a ts f (sent (sink.Texts texts) value))) (sym (branch.at_Concatenation a f e.now lhs.now rhs.now is));
   less = omega (arith, whole a ts f e (sink.Texts texts) lhs rhs is);
   within = within_sum a ts f e (sink.Texts texts) lhs rhs is (task.Close (sink.Texts texts) ∷ ts) kept;
 }
@@ -161,8 +161,8 @@ goes_sum a ts f e (sink.Texts texts) lhs rhs is = record {
     kept place (inl none) = absurd none
     kept place (inr later) = later
 goes_sum a ts f e (sink.Joined written apart) lhs rhs is = record {
-  same = of_sum_joined (λ s. ran a ts f s) written apart (value_in a f lhs.now) (value_in a f rhs.now)
-      ∙ ap (option_and_then (λ value. ran a ts f (sent (sink.Joined written apart) value))) (sym (branch.at_Concatenation a f e.now lhs.now rhs.now is));
+  same = of_sum_joined (λ s. ran_tasks a ts f s) written apart (frame_value a f lhs.now) (frame_value a f rhs.now)
+      ∙ ap (option_and_then (λ value. ran_tasks a ts f (sent (sink.Joined written apart) value))) (sym (branch.at_Concatenation a f e.now lhs.now rhs.now is));
   less = omega (arith, whole a ts f e (sink.Joined written apart) lhs rhs is);
   within = within_sum a ts f e (sink.Joined written apart) lhs rhs is ts (λ place later. later);
 }

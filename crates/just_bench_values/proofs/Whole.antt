@@ -4,7 +4,7 @@ use Rattle.std.specs.Option.{option_and_then}
 use Rattle.just_names.specs.Texts.{Text}
 use Rattle.just_ast_expressions.specs.declared.expression.Expression.{Expression}
 use Rattle.just_bench_values.specs.Sink.{sent, texts_of}
-use Rattle.just_bench_values.specs.loops.Tasks.{ran, value_in}
+use Rattle.just_bench_values.specs.loops.Tasks.{ran_tasks, frame_value}
 use Rattle.just_bench_values.specs.Values.{Outcome}
 use Rattle.just_bench_values.specs.declared.sink.Sink.{Sink}
 use Rattle.just_bench_values.specs.declared.sink.Sink.TheVariants as sink
@@ -27,11 +27,11 @@ gathered_some (Some value) s is =
 -- the one expression of a state
 module _ (a : Among) (e : Bor Expression) (tasks : List Task) (f : Frame) (texts : List Text) (only : tasks ≡ task.Value e ∷ []) (empty : texts ≡ []) where
   abbrev value : Outcome
-  value = value_in a f e.now
+  value = frame_value a f e.now
 
-  gathers : ran a tasks f (sink.Texts texts) ≡ gathered value
-  gathers = ap (λ ts. ran a ts f (sink.Texts texts)) only
-      ∙ (λ i. option_and_then (λ v. Some (sent (sink.Texts (empty i)) v)) (value_in a f e.now))
+  gathers : ran_tasks a tasks f (sink.Texts texts) ≡ gathered value
+  gathers = ap (λ ts. ran_tasks a ts f (sink.Texts texts)) only
+      ∙ (λ i. option_and_then (λ v. Some (sent (sink.Texts (empty i)) v)) (frame_value a f e.now))
 
-  pub whole_some : (s : Sink) → ran a tasks f (sink.Texts texts) ≡ Some s → value ≡ Some (texts_of s)
+  pub whole_some : (s : Sink) → ran_tasks a tasks f (sink.Texts texts) ≡ Some s → value ≡ Some (texts_of s)
   whole_some s is = gathered_some value s (sym gathers ∙ is)

@@ -32,7 +32,7 @@ use Rattle.just_recipe.specs.Script.{is_script, is_shell, says_shell}
 use Rattle.just_recipe.specs.declared.dependency.DependencyArgument.{DependencyArgument}
 use Rattle.just_recipe.specs.declared.dependency.UnresolvedDependency.{UnresolvedDependency}
 use Rattle.just_recipe.specs.declared.recipe.Recipe.{Recipe}
-use Rattle.just_recipe_names.specs.Numbered.{attribute_by, dependency_by, fragment_by, given_by, line_by, attribute_with, numbered_body, numbered_parameters, parameter_by, property_by, shell_lines_by, under_parameters}
+use Rattle.just_recipe_names.specs.Numbered.{attribute_by, dependency_by, fragment_by, argument_given_by, line_by, attribute_with, numbered_body, numbered_parameters, parameter_by, property_by, shell_lines_by, under_parameters}
 use Rattle.just_recipe.specs.Recipes.{arguments_of}
 use Rattle.just_parts.specs.Bare.{bare_fragment, bare_line}
 use Rattle.just_recipe_values.specs.Valued.{informed, valued_attribute, valued_named}
@@ -230,7 +230,7 @@ whole_alike (d ∷ ds) (m ∷ ms) all = λ i. map expression_of (all.0 i) ++ who
 
 -- and of those that are changed
 module _ (by : Expression → Expression) (same : (e : Expression) → mentions (by e) ≡ mentions e) where
-  given_alike : (given : List DependencyArgument) → map mentions (map expression_of (map (given_by by) given)) ≡ map mentions (map expression_of given)
+  given_alike : (given : List DependencyArgument) → map mentions (map expression_of (map (argument_given_by by) given)) ≡ map mentions (map expression_of given)
   given_alike [] = refl
   given_alike (a ∷ given) = λ i. same a.expression i ∷ given_alike given i
 

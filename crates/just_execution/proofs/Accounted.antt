@@ -18,7 +18,7 @@ use Rattle.just_run_layers.specs.Interactions.{Log, executed_in, Question, ToHos
 use Rattle.just_run_layers.proofs.InteractionLemmas.{took-gives, took-split}
 use Rattle.just_tasks.specs.declared.pair.Pair.{Pair}
 use Rattle.just_execution.specs.Account.{AskedTask, OnceTables, NoMore, Asked, Began, own, executions, AreIn, AreNamed, Complete, counts, HasAccount, SaysOfTables, executed_by_recipe, at_path}
-use Rattle.just_execution.specs.Firsts.{has}
+use Rattle.just_execution.specs.Firsts.{stands_among}
 use Rattle.just_execution.specs.TaskInteractions.{ask_steps, begin_steps, body_of, execute_at, follow_steps, interactions_of, run_in}
 use Rattle.just_tasks.specs.declared.task.Task.{Task}
 use Rattle.just_tasks.specs.Pairs.{OnceTable, same_pair, prior_dependencies, subsequent_dependencies, AllBelow}
@@ -129,7 +129,7 @@ module _ (recipes : List (Recipe Dependency)) (of_task : TaskInteractions) (p : 
   -- the body of a task, and its subsequents
   block-at : (n : ℕ) → WalkAt n →
       (tops : List Task) (before : List AskedTask) (done : List Pair) (t : Task) (h : Held) (ps : List Task) (calls : List ℕ) (old new : Log) (r : Result (List ℕ) Halt) → t.pair.recipe ≤ n →
-      In (with_priors t ps) before → has same_pair done t.pair ≡ false → AreIn done ps →
+      In (with_priors t ps) before → stands_among same_pair done t.pair ≡ false → AreIn done ps →
       HasTrace p (block_steps of_task (walk_steps of_task n) t h calls) old new r → (u : OnceTables) × Blocks recipes tops before done t ps calls old new r u
   block-at n walk tops before done t held ps calls old new r l i m d took =
       elim (took-split p (of_task.execute t held) (λ _. and_then (of_task.follow t held) (λ ts. fresh_steps (walk_steps of_task n) ts calls)) old new r took) [
@@ -160,7 +160,7 @@ module _ (recipes : List (Recipe Dependency)) (of_task : TaskInteractions) (p : 
   asking n s t = and_then (of_task.ask t) (λ a. and_then (all_steps (walk_steps of_task n) (counted s) a.priors) (ran_steps of_task (walk_steps of_task n) t a.held))
 
   visit-at : (n : ℕ) → WalkAt n → (tops : List Task) (before : List AskedTask) (done : List Pair) (s : State) (t : Task) (old new : Log) (r : Result State Halt) → t.pair.recipe ≤ n →
-      Stands tops before done (suc t.pair.recipe) s (t ∷ []) → has same_pair done t.pair ≡ false →
+      Stands tops before done (suc t.pair.recipe) s (t ∷ []) → stands_among same_pair done t.pair ≡ false →
       HasTrace p (asking n s t) old new r →
       (u : OnceTables) × Accounts recipes tops before done (suc t.pair.recipe) s (t ∷ []) old new r u
   visit-at n walk tops before done s t old new r l a m took =
@@ -177,7 +177,7 @@ module _ (recipes : List (Recipe Dependency)) (of_task : TaskInteractions) (p : 
                   let w : Walked recipes done ps (counted s) now u = c.whole now refl in
                   let member : In (with_priors t ps) ((before ++ with_priors t ps ∷ []) ++ asks u) =
                   in_left (with_priors t ps) (before ++ with_priors t ps ∷ []) (asks u) (in_right (with_priors t ps) before (with_priors t ps ∷ []) (inl refl)) in
-                  let unbegun : has same_pair (done ++ own u) t.pair ≡ false = still-new done (own u) t.pair m c.low in
+                  let unbegun : stands_among same_pair (done ++ own u) t.pair ≡ false = still-new done (own u) t.pair m c.low in
                   elim (took-split p (block_steps of_task (walk_steps of_task n) t x.held now.calls) (λ calls. Return (ran now t calls)) next new r last) [
                     | inl (calls, end, gave_it, third, rest) ↦
                         let (v, b) = block-at n walk tops ((before ++ with_priors t ps ∷ []) ++ asks u) (done ++ own u) t x.held ps now.calls next end (Ok calls) l member unbegun w.all_done third in (
@@ -217,15 +217,15 @@ module _ (recipes : List (Recipe Dependency)) (of_task : TaskInteractions) (p : 
           | inl h ↦
               let given : HasTrace p (Return (counted s)) old new r = subst (λ (q : Interaction State). HasTrace p q old new r)
               (cond-true (s.table t.pair) (Return (counted s)) (asking n s t) h) visit in
-              let here : has same_pair done t.pair ≡ true = sym (ap (λ (f : OnceTable). f t.pair) a.table) ∙ h in (
+              let here : stands_among same_pair done t.pair ≡ true = sym (ap (λ (f : OnceTable). f t.pair) a.table) ∙ h in (
                 NoMore,
                 gave recipes tops before done (suc t.pair.recipe) s (counted s) (t ∷ []) old new r refl a.table refl
-                    (All-cons (λ (q : Task). has same_pair done q.pair ≡ true) t [] here (none-in done)) given.0 given.1,
+                    (All-cons (λ (q : Task). stands_among same_pair done q.pair ≡ true) t [] here (none-in done)) given.0 given.1,
               )
           | inr h ↦
               let going : HasTrace p (asking n s t) old new r = subst (λ (q : Interaction State). HasTrace p q old new r)
               (cond-false (s.table t.pair) (Return (counted s)) (asking n s t) h) visit in
-              let missing : has same_pair done t.pair ≡ false = sym (ap (λ (f : OnceTable). f t.pair) a.table) ∙ h in
+              let missing : stands_among same_pair done t.pair ≡ false = sym (ap (λ (f : OnceTable). f t.pair) a.table) ∙ h in
               visit-at n walk tops before done s t old new r within a missing going
         ]
       ]

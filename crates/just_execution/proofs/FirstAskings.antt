@@ -7,7 +7,7 @@ use Rattle.just_graph.proofs.Members.{In, in_cases, in_left, in_right}
 use Rattle.just_run_layers.specs.Host.{Answer}
 use Rattle.just_run_layers.specs.Interactions.{Question}
 use Rattle.just_execution.specs.Expansion.{Part, Prepare, Block, same_part, part_key, expansion}
-use Rattle.just_execution.specs.Firsts.{has, without_key, firsts_by}
+use Rattle.just_execution.specs.Firsts.{stands_among, without_key, firsts_by}
 use Rattle.just_execution.specs.loops.Lower.{IsLower}
 use Rattle.just_execution.specs.Reports.{IsFirstAsked}
 use Rattle.just_tasks.specs.declared.task.Task.{Task}
@@ -54,7 +54,7 @@ module _ {P K : Type 0} (same : K → K → Bool) (name : P → K) (priors : P �
 
   walk-asked : (n : ℕ) (table : List K) (p : P) → AreAsked (walk same name priors n table p)
   walk-asked zero table p = none-asked
-  walk-asked (suc n) table p = cond-asked (has same table (name p)) _ (one-asked p (walks name (walk same name priors n) table (priors p)) (walks-asked n (walk-asked n) (priors p) table))
+  walk-asked (suc n) table p = cond-asked (stands_among same table (name p)) _ (one-asked p (walks name (walk same name priors n) table (priors p)) (walks-asked n (walk-asked n) (priors p) table))
 
   pub all-asked : (n : ℕ) (table : List K) (ps : List P) → AreAsked (walks name (walk same name priors n) table ps)
   all-asked n table ps = walks-asked n (walk-asked n) ps table

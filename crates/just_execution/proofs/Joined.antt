@@ -11,7 +11,7 @@ use Rattle.just_recipe.specs.declared.dependency.Dependency.{Dependency}
 use Rattle.just_recipe.specs.declared.recipe.Recipe.{Recipe}
 use Rattle.just_run_layers.specs.Host.{Executed}
 use Rattle.just_tasks.specs.declared.pair.Pair.{Pair}
-use Rattle.just_execution.specs.Firsts.{has}
+use Rattle.just_execution.specs.Firsts.{stands_among}
 use Rattle.just_tasks.specs.declared.task.Task.{Task}
 use Rattle.just_tasks.specs.Pairs.{same_pair, prior_dependencies}
 use Rattle.just_execution.specs.Account.{AskedTask, OnceTables, NoMore, Asked, Began, own, begun, executions, AreIn, may_be_asked, pairs_asked, AreNamed, FitsTables, Complete, prior_count, asked_count, if_any, counts_below, IsFullBelow}
@@ -36,12 +36,12 @@ AllLow bound ps = All (λ (p : Pair). p.recipe < bound) ps
 -- the pair of each asked is among some pairs
 abbrev pub AreDone : List Pair → List AskedTask → Type 0
 AreDone done [] = Unit {0}
-AreDone done (a ∷ rest) = (has same_pair done a.task.pair ≡ true) × AreDone done rest
+AreDone done (a ∷ rest) = (stands_among same_pair done a.task.pair ≡ true) × AreDone done rest
 
 -- the pair of each asked of a recipe below the bound is among some pairs
 abbrev pub Settled : ℕ → List AskedTask → List Pair → Type 0
 Settled bound [] done = Unit {0}
-Settled bound (a ∷ rest) done = (a.task.pair.recipe < bound → has same_pair done a.task.pair ≡ true) × Settled bound rest done
+Settled bound (a ∷ rest) done = (a.task.pair.recipe < bound → stands_among same_pair done a.task.pair ≡ true) × Settled bound rest done
 
 -- the priors of each asked are what its recipe names
 abbrev pub AllNamed : List (Recipe Dependency) → OnceTables → Type 0
@@ -122,21 +122,21 @@ pub AllLow-more : (k n : ℕ) (ps : List Pair) → k ≤ n → AllLow k ps → A
 AllLow-more k n ps l h = All-weaker (λ (p : Pair). p.recipe < k) (λ (p : Pair). p.recipe < n) (λ p q. omega arith) ps h
 
 -- a pair is not among pairs of lower places
-not-below : (p : Pair) → (ps : List Pair) → AllLow p.recipe ps → has same_pair ps p ≡ true → ⊥
+not-below : (p : Pair) → (ps : List Pair) → AllLow p.recipe ps → stands_among same_pair ps p ≡ true → ⊥
 not-below p [] h k = true≢false (sym k)
-not-below p (q ∷ ps) h k = elim (or_cases (same_pair q p) (has same_pair ps p) k) [
+not-below p (q ∷ ps) h k = elim (or_cases (same_pair q p) (stands_among same_pair ps p) k) [
   | inl m ↦ let e : q.recipe ≡ p.recipe = ap (λ (r : Pair). r.recipe) (pair-exact.only q p m) in let l : q.recipe < p.recipe = h 0 p (omega arith) in absurd (omega arith)
   | inr m ↦ not-below p ps (λ i d l. h (suc i) d (omega arith)) m
 ]
 
-pub still-new : (done ps : List Pair) (p : Pair) → has same_pair done p ≡ false → AllLow p.recipe ps → has same_pair (done ++ ps) p ≡ false
-still-new done ps p h k = false_from_ne_true (has same_pair (done ++ ps) p) (λ m. elim (or_cases (has same_pair done p) (has same_pair ps p) (sym (has-append same_pair done ps p) ∙ m)) [
+pub still-new : (done ps : List Pair) (p : Pair) → stands_among same_pair done p ≡ false → AllLow p.recipe ps → stands_among same_pair (done ++ ps) p ≡ false
+still-new done ps p h k = false_from_ne_true (stands_among same_pair (done ++ ps) p) (λ m. elim (or_cases (stands_among same_pair done p) (stands_among same_pair ps p) (sym (has-append same_pair done ps p) ∙ m)) [
   | inl a ↦ true≢false (sym a ∙ h)
   | inr a ↦ not-below p ps k a
 ])
 
-pub has-last : (done : List Pair) (p : Pair) → has same_pair (done ++ p ∷ []) p ≡ true
-has-last done p = has-append same_pair done (p ∷ []) p ∙ or_right (has same_pair done p) (same_pair p p || false) (or_left (same_pair p p) false (pair-exact.itself p))
+pub has-last : (done : List Pair) (p : Pair) → stands_among same_pair (done ++ p ∷ []) p ≡ true
+has-last done p = has-append same_pair done (p ∷ []) p ∙ or_right (stands_among same_pair done p) (same_pair p p || false) (or_left (same_pair p p) false (pair-exact.itself p))
 
 pub executions-append : (rs : List (Recipe Dependency)) (xs ys : List Task) → executions rs (xs ++ ys) ≡ executions rs xs ++ executions rs ys
 executions-append rs xs ys = flat_map-append _ xs ys
@@ -189,12 +189,12 @@ length-known_tops tops t = length-known tops [] t ∙ ap (λ n. n + asked_count 
 -- those asked and done
 pub AreDone-more : (done more : List Pair) (rest : List AskedTask) → AreDone done rest → AreDone (done ++ more) rest
 AreDone-more done more [] h = tt
-AreDone-more done more (a ∷ rest) h = (has-append same_pair done more a.task.pair ∙ or_left (has same_pair done a.task.pair) (has same_pair more a.task.pair) h.0, AreDone-more done more rest h.1)
+AreDone-more done more (a ∷ rest) h = (has-append same_pair done more a.task.pair ∙ or_left (stands_among same_pair done a.task.pair) (stands_among same_pair more a.task.pair) h.0, AreDone-more done more rest h.1)
 
 pub AreDone-after : (done more : List Pair) (rest : List AskedTask) → AreDone more rest → AreDone (done ++ more) rest
 AreDone-after done more [] h = tt
 AreDone-after done more (a ∷ rest) h =
-    (has-append same_pair done more a.task.pair ∙ or_right (has same_pair done a.task.pair) (has same_pair more a.task.pair) h.0, AreDone-after done more rest h.1)
+    (has-append same_pair done more a.task.pair ∙ or_right (stands_among same_pair done a.task.pair) (stands_among same_pair more a.task.pair) h.0, AreDone-after done more rest h.1)
 
 AreDone-append : (done : List Pair) (rest bs : List AskedTask) → AreDone done rest → AreDone done bs → AreDone done (rest ++ bs)
 AreDone-append done [] bs h k = k
@@ -211,7 +211,7 @@ Settled-append k done (a ∷ rest) bs h i = (h.0, Settled-append k done rest bs 
 Settled-more : (k : ℕ) (done more : List Pair) (rest : List AskedTask) → Settled k rest done → Settled k rest (done ++ more)
 Settled-more k done more [] h = tt
 Settled-more k done more (a ∷ rest) h =
-    ((λ l. has-append same_pair done more a.task.pair ∙ or_left (has same_pair done a.task.pair) (has same_pair more a.task.pair) (h.0 l)), Settled-more k done more rest h.1)
+    ((λ l. has-append same_pair done more a.task.pair ∙ or_left (stands_among same_pair done a.task.pair) (stands_among same_pair more a.task.pair) (h.0 l)), Settled-more k done more rest h.1)
 
 pub Settled-low : (k n : ℕ) (done : List Pair) (rest : List AskedTask) → k ≤ n → Settled n rest done → Settled k rest done
 Settled-low k n done [] l h = tt
@@ -231,17 +231,17 @@ Settled-asked done asked a h =
     Settled-append a.task.pair.recipe done asked (a ∷ []) (Settled-low a.task.pair.recipe (suc a.task.pair.recipe) done asked (omega arith) h) ((λ l. absurd (omega arith)), tt)
 
 -- a pair that is not done was not asked
-unasked-not : (p : Pair) (done : List Pair) (rest : List AskedTask) → Settled (suc p.recipe) rest done → has same_pair done p ≡ false → has same_pair (pairs_asked rest) p ≡ true → ⊥
+unasked-not : (p : Pair) (done : List Pair) (rest : List AskedTask) → Settled (suc p.recipe) rest done → stands_among same_pair done p ≡ false → stands_among same_pair (pairs_asked rest) p ≡ true → ⊥
 unasked-not p done [] h n k = true≢false (sym k)
-unasked-not p done (a ∷ rest) h n k = elim (or_cases (same_pair a.task.pair p) (has same_pair (pairs_asked rest) p) k) [
+unasked-not p done (a ∷ rest) h n k = elim (or_cases (same_pair a.task.pair p) (stands_among same_pair (pairs_asked rest) p) k) [
   | inl m ↦ let e : a.task.pair ≡ p = pair-exact.only a.task.pair p m in
       let l : a.task.pair.recipe ≡ p.recipe = ap (λ (q : Pair). q.recipe) e in
-      true≢false (sym (h.0 (omega arith)) ∙ ap (has same_pair done) e ∙ n)
+      true≢false (sym (h.0 (omega arith)) ∙ ap (stands_among same_pair done) e ∙ n)
   | inr m ↦ unasked-not p done rest h.1 n m
 ]
 
-pub unasked : (p : Pair) (done : List Pair) (rest : List AskedTask) → Settled (suc p.recipe) rest done → has same_pair done p ≡ false → has same_pair (pairs_asked rest) p ≡ false
-unasked p done rest h n = false_from_ne_true (has same_pair (pairs_asked rest) p) (λ k. unasked-not p done rest h n k)
+pub unasked : (p : Pair) (done : List Pair) (rest : List AskedTask) → Settled (suc p.recipe) rest done → stands_among same_pair done p ≡ false → stands_among same_pair (pairs_asked rest) p ≡ false
+unasked p done rest h n = false_from_ne_true (stands_among same_pair (pairs_asked rest) p) (λ k. unasked-not p done rest h n k)
 
 -- counts
 pub add-twice : (ns : List ℕ) (i a b : ℕ) → add_at (add_at ns i a) i b ≡ add_at ns i (a + b)
@@ -333,5 +333,5 @@ none-below k i d h = absurd (omega arith)
 pub one-below : (p : Pair) → AllLow (suc p.recipe) (p ∷ [])
 one-below p = All-cons (λ (q : Pair). q.recipe < suc p.recipe) p [] (omega arith) (none-below (suc p.recipe))
 
-pub has-more : (done more : List Pair) (p : Pair) → has same_pair done p ≡ true → has same_pair (done ++ more) p ≡ true
-has-more done more p h = has-append same_pair done more p ∙ or_left (has same_pair done p) (has same_pair more p) h
+pub has-more : (done more : List Pair) (p : Pair) → stands_among same_pair done p ≡ true → stands_among same_pair (done ++ more) p ≡ true
+has-more done more p h = has-append same_pair done more p ∙ or_left (stands_among same_pair done p) (stands_among same_pair more p) h

@@ -1,7 +1,7 @@
 -- Going through a list and keeping what was not seen before.
 use Rattle.std.proofs.Common.{◌≡◌, Bool, true, false, ◌||◌, List, [], ◌∷◌, ◌++◌, refl, sym, ◌∙◌, ap}
 use Rattle.std.proofs.lemmas.Bool.{true≢false}
-use Rattle.just_execution.specs.Firsts.{has}
+use Rattle.just_execution.specs.Firsts.{stands_among}
 
 -- a test that holds of equals and of nothing else
 pub record Exact {A : Type 0} (same : A → A → Bool) : Type 0 where
@@ -26,9 +26,9 @@ regroup true b c = refl
 regroup false true c = refl
 regroup false false c = refl
 
-pub has-append : {A : Type 0} (same : A → A → Bool) → (xs ys : List A) (x : A) → has same (xs ++ ys) x ≡ (has same xs x || has same ys x)
+pub has-append : {A : Type 0} (same : A → A → Bool) → (xs ys : List A) (x : A) → stands_among same (xs ++ ys) x ≡ (stands_among same xs x || stands_among same ys x)
 has-append same [] ys x = refl
-has-append same (y ∷ xs) ys x = rw (has-append same xs ys x) (or_assoc (same y x) (has same xs x) (has same ys x))
+has-append same (y ∷ xs) ys x = rw (has-append same xs ys x) (or_assoc (same y x) (stands_among same xs x) (stands_among same ys x))
 
 -- one more seen: the rest without it
 pub twice : (a b : Bool) → (a || (b || false)) ≡ ((a || (b || false)) || (b || false))
@@ -43,8 +43,8 @@ swapped false true false = refl
 swapped false false true = refl
 swapped false false false = refl
 
-pub has-two : {A : Type 0} (same : A → A → Bool) (s : List A) (x y z : A) → has same ((s ++ (x ∷ [])) ++ (y ∷ [])) z ≡ ((has same s z || (same x z || false)) || (same y z || false))
+pub has-two : {A : Type 0} (same : A → A → Bool) (s : List A) (x y z : A) → stands_among same ((s ++ (x ∷ [])) ++ (y ∷ [])) z ≡ ((stands_among same s z || (same x z || false)) || (same y z || false))
 has-two same s x y z = has-append same (s ++ (x ∷ [])) (y ∷ []) z ∙ ap (λ b. b || (same y z || false)) (has-append same s (x ∷ []) z)
 
-pub has-twice : {A : Type 0} (same : A → A → Bool) (s : List A) (x y z : A) → x ≡ y → has same (s ++ (x ∷ [])) z ≡ has same ((s ++ (y ∷ [])) ++ (x ∷ [])) z
-has-twice same s x y z h = rw (← h) (has-append same s (x ∷ []) z ∙ twice (has same s z) (same x z) ∙ sym (has-two same s x x z))
+pub has-twice : {A : Type 0} (same : A → A → Bool) (s : List A) (x y z : A) → x ≡ y → stands_among same (s ++ (x ∷ [])) z ≡ stands_among same ((s ++ (y ∷ [])) ++ (x ∷ [])) z
+has-twice same s x y z h = rw (← h) (has-append same s (x ∷ []) z ∙ twice (stands_among same s z) (same x z) ∙ sym (has-two same s x x z))

@@ -4,7 +4,7 @@ use Rattle.std.specs.Prelude.{flat_map}
 use Rattle.std.proofs.lemmas.List.{append-nil, map-append}
 use Rattle.std.proofs.lemmas.Bool.{cases_Bool, or_cases, or_left, or_right, cond-true, cond-false, true≢false, false_from_ne_true}
 use Rattle.just_graph.proofs.Members.{In}
-use Rattle.just_execution.specs.Firsts.{has, without_key, firsts_by}
+use Rattle.just_execution.specs.Firsts.{stands_among, without_key, firsts_by}
 use Rattle.just_execution.specs.Expansion.{Part, Prepare, Block, same_part, part_key, expansion}
 use Rattle.just_execution.proofs.Walks.{blocks, walk, walks}
 use Rattle.just_execution.proofs.Keeps.{Exact, has-append, or_false, absorbed, regroup, swapped, has-two, has-twice}
@@ -14,70 +14,70 @@ use Rattle.just_execution.proofs.Ranks.{blocks-append}
 module _ {A K : Type 0} (same : K → K → Bool) (e : Exact same) (key : A → K) where
   abbrev pub keep : List K → List A → List A
   keep seen [] = []
-  keep seen (x ∷ xs) = cond (has same seen (key x)) (keep seen xs) (x ∷ keep (seen ++ (key x ∷ [])) xs)
+  keep seen (x ∷ xs) = cond (stands_among same seen (key x)) (keep seen xs) (x ∷ keep (seen ++ (key x ∷ [])) xs)
 
-  pub keep-seen : (seen : List K) (x : A) (xs : List A) → has same seen (key x) ≡ true → keep seen (x ∷ xs) ≡ keep seen xs
-  keep-seen seen x xs h = cond-true (has same seen (key x)) _ _ h
+  pub keep-seen : (seen : List K) (x : A) (xs : List A) → stands_among same seen (key x) ≡ true → keep seen (x ∷ xs) ≡ keep seen xs
+  keep-seen seen x xs h = cond-true (stands_among same seen (key x)) _ _ h
 
-  pub keep-new : (seen : List K) (x : A) (xs : List A) → has same seen (key x) ≡ false → keep seen (x ∷ xs) ≡ x ∷ keep (seen ++ (key x ∷ [])) xs
-  keep-new seen x xs h = cond-false (has same seen (key x)) _ _ h
+  pub keep-new : (seen : List K) (x : A) (xs : List A) → stands_among same seen (key x) ≡ false → keep seen (x ∷ xs) ≡ x ∷ keep (seen ++ (key x ∷ [])) xs
+  keep-new seen x xs h = cond-false (stands_among same seen (key x)) _ _ h
 
   pub keep-append : (xs ys : List A) (seen : List K) → keep seen (xs ++ ys) ≡ keep seen xs ++ keep (seen ++ map key (keep seen xs)) ys
   keep-append [] ys seen = ap (λ s. keep s ys) (sym (append-nil seen))
   keep-append (x ∷ xs) ys seen =
-      elim (cases_Bool (has same seen (key x))) [
+      elim (cases_Bool (stands_among same seen (key x))) [
         | inl h ↦ keep-seen seen x (xs ++ ys) h ∙ keep-append xs ys seen ∙ ap (λ t. t ++ keep (seen ++ map key t) ys) (sym (keep-seen seen x xs h))
         | inr h ↦ keep-new seen x (xs ++ ys) h
             ∙ ap (λ t. x ∷ t) (keep-append xs ys (seen ++ (key x ∷ [])) ∙ ap (λ s. keep (seen ++ (key x ∷ [])) xs ++ keep s ys) (append_assoc seen (key x ∷ []) (map key (keep (seen ++ (key x ∷ [])) xs))))
             ∙ ap (λ t. t ++ keep (seen ++ map key t) ys) (sym (keep-new seen x xs h))
       ]
 
-  pub has-keep : (xs : List A) (seen : List K) (y : K) → has same (seen ++ map key (keep seen xs)) y ≡ (has same seen y || has same (map key xs) y)
-  has-keep [] seen y = ap (λ s. has same s y) (append-nil seen) ∙ sym (or_false (has same seen y))
+  pub has-keep : (xs : List A) (seen : List K) (y : K) → stands_among same (seen ++ map key (keep seen xs)) y ≡ (stands_among same seen y || stands_among same (map key xs) y)
+  has-keep [] seen y = ap (λ s. stands_among same s y) (append-nil seen) ∙ sym (or_false (stands_among same seen y))
   has-keep (x ∷ xs) seen y =
-      elim (cases_Bool (has same seen (key x))) [
-        | inl h ↦ ap (λ t. has same (seen ++ map key t) y) (keep-seen seen x xs h) ∙ has-keep xs seen y
-            ∙ sym (absorbed (has same seen y) (same (key x) y) (has same (map key xs) y) (λ k. ap (has same seen) (sym (e.only (key x) y k)) ∙ h))
-        | inr h ↦ ap (λ t. has same (seen ++ map key t) y) (keep-new seen x xs h)
-            ∙ ap (λ s. has same s y) (sym (append_assoc seen (key x ∷ []) (map key (keep (seen ++ (key x ∷ [])) xs))))
+      elim (cases_Bool (stands_among same seen (key x))) [
+        | inl h ↦ ap (λ t. stands_among same (seen ++ map key t) y) (keep-seen seen x xs h) ∙ has-keep xs seen y
+            ∙ sym (absorbed (stands_among same seen y) (same (key x) y) (stands_among same (map key xs) y) (λ k. ap (stands_among same seen) (sym (e.only (key x) y k)) ∙ h))
+        | inr h ↦ ap (λ t. stands_among same (seen ++ map key t) y) (keep-new seen x xs h)
+            ∙ ap (λ s. stands_among same s y) (sym (append_assoc seen (key x ∷ []) (map key (keep (seen ++ (key x ∷ [])) xs))))
             ∙ has-keep xs (seen ++ (key x ∷ [])) y
-            ∙ ap (λ b. b || has same (map key xs) y) (has-append same seen (key x ∷ []) y)
-            ∙ regroup (has same seen y) (same (key x) y) (has same (map key xs) y)
+            ∙ ap (λ b. b || stands_among same (map key xs) y) (has-append same seen (key x ∷ []) y)
+            ∙ regroup (stands_among same seen y) (same (key x) y) (stands_among same (map key xs) y)
       ]
 
-  pub keep-all_seen : (xs : List A) (seen : List K) → ((k : K) → has same (map key xs) k ≡ true → has same seen k ≡ true) → keep seen xs ≡ []
+  pub keep-all_seen : (xs : List A) (seen : List K) → ((k : K) → stands_among same (map key xs) k ≡ true → stands_among same seen k ≡ true) → keep seen xs ≡ []
   keep-all_seen [] seen h = refl
   keep-all_seen (x ∷ xs) seen h =
-      keep-seen seen x xs (h (key x) (or_left (same (key x) (key x)) (has same (map key xs) (key x)) (e.itself (key x))))
-      ∙ keep-all_seen xs seen (λ y k. h y (or_right (same (key x) y) (has same (map key xs) y) k))
+      keep-seen seen x xs (h (key x) (or_left (same (key x) (key x)) (stands_among same (map key xs) (key x)) (e.itself (key x))))
+      ∙ keep-all_seen xs seen (λ y k. h y (or_right (same (key x) y) (stands_among same (map key xs) y) k))
 
-  pub keep-agree : (xs : List A) (s t : List K) → ((y : K) → has same s y ≡ has same t y) → keep s xs ≡ keep t xs
+  pub keep-agree : (xs : List A) (s t : List K) → ((y : K) → stands_among same s y ≡ stands_among same t y) → keep s xs ≡ keep t xs
   keep-agree [] s t h = refl
   keep-agree (x ∷ xs) s t h =
-      let more : (y : K) → has same (s ++ (key x ∷ [])) y ≡ has same (t ++ (key x ∷ [])) y = λ y. has-append same s (key x ∷ []) y ∙ ap (λ b. b || has same (key x ∷ []) y) (h y) ∙ sym (has-append same t (key x ∷ []) y) in
+      let more : (y : K) → stands_among same (s ++ (key x ∷ [])) y ≡ stands_among same (t ++ (key x ∷ [])) y = λ y. has-append same s (key x ∷ []) y ∙ ap (λ b. b || stands_among same (key x ∷ []) y) (h y) ∙ sym (has-append same t (key x ∷ []) y) in
       ap (λ b. cond b (keep s xs) (x ∷ keep (s ++ (key x ∷ [])) xs)) (h (key x))
-      ∙ ap (λ u. cond (has same t (key x)) u (x ∷ keep (s ++ (key x ∷ [])) xs)) (keep-agree xs s t h)
-      ∙ ap (λ u. cond (has same t (key x)) (keep t xs) (x ∷ u)) (keep-agree xs (s ++ (key x ∷ [])) (t ++ (key x ∷ [])) more)
+      ∙ ap (λ u. cond (stands_among same t (key x)) u (x ∷ keep (s ++ (key x ∷ [])) xs)) (keep-agree xs s t h)
+      ∙ ap (λ u. cond (stands_among same t (key x)) (keep t xs) (x ∷ u)) (keep-agree xs (s ++ (key x ∷ [])) (t ++ (key x ∷ [])) more)
 
   pub keep-without : (x : K) (xs : List A) (s : List K) → keep (s ++ (x ∷ [])) xs ≡ without_key same key x (keep s xs)
   keep-without x [] s = refl
   keep-without x (y ∷ ys) s =
-      elim (cases_Bool (has same s (key y))) [
+      elim (cases_Bool (stands_among same s (key y))) [
         | inl h ↦
-            let g : has same (s ++ (x ∷ [])) (key y) ≡ true = has-append same s (x ∷ []) (key y) ∙ or_left (has same s (key y)) (same x (key y) || false) h in
+            let g : stands_among same (s ++ (x ∷ [])) (key y) ≡ true = has-append same s (x ∷ []) (key y) ∙ or_left (stands_among same s (key y)) (same x (key y) || false) h in
             keep-seen (s ++ (x ∷ [])) y ys g ∙ keep-without x ys s ∙ ap (without_key same key x) (sym (keep-seen s y ys h))
         | inr h ↦ elim (cases_Bool (same x (key y))) [
           | inl k ↦
-              let g : has same (s ++ (x ∷ [])) (key y) ≡ true = has-append same s (x ∷ []) (key y) ∙ or_right (has same s (key y)) (same x (key y) || false) (or_left (same x (key y)) false k) in
+              let g : stands_among same (s ++ (x ∷ [])) (key y) ≡ true = has-append same s (x ∷ []) (key y) ∙ or_right (stands_among same s (key y)) (same x (key y) || false) (or_left (same x (key y)) false k) in
               keep-seen (s ++ (x ∷ [])) y ys g
               ∙ keep-agree ys (s ++ (x ∷ [])) ((s ++ (key y ∷ [])) ++ (x ∷ [])) (λ z. has-twice same s x (key y) z (e.only x (key y) k))
               ∙ keep-without x ys (s ++ (key y ∷ []))
               ∙ sym (cond-true (same x (key y)) (without_key same key x (keep (s ++ (key y ∷ [])) ys)) _ k)
               ∙ ap (without_key same key x) (sym (keep-new s y ys h))
           | inr k ↦
-              let g : has same (s ++ (x ∷ [])) (key y) ≡ false = has-append same s (x ∷ []) (key y) ∙ ap (λ b. b || (same x (key y) || false)) h ∙ ap (λ b. b || false) k in
+              let g : stands_among same (s ++ (x ∷ [])) (key y) ≡ false = has-append same s (x ∷ []) (key y) ∙ ap (λ b. b || (same x (key y) || false)) h ∙ ap (λ b. b || false) k in
               keep-new (s ++ (x ∷ [])) y ys g
-              ∙ ap (λ t. y ∷ t) (keep-agree ys ((s ++ (x ∷ [])) ++ (key y ∷ [])) ((s ++ (key y ∷ [])) ++ (x ∷ [])) (λ z. has-two same s x (key y) z ∙ swapped (has same s z) (same x z) (same (key y) z) ∙ sym (has-two same s (key y) x z)) ∙ keep-without x ys (s ++ (key y ∷ [])))
+              ∙ ap (λ t. y ∷ t) (keep-agree ys ((s ++ (x ∷ [])) ++ (key y ∷ [])) ((s ++ (key y ∷ [])) ++ (x ∷ [])) (λ z. has-two same s x (key y) z ∙ swapped (stands_among same s z) (same x z) (same (key y) z) ∙ sym (has-two same s (key y) x z)) ∙ keep-without x ys (s ++ (key y ∷ [])))
               ∙ sym (cond-false (same x (key y)) _ (y ∷ without_key same key x (keep (s ++ (key y ∷ [])) ys)) k)
               ∙ ap (without_key same key x) (sym (keep-new s y ys h))
         ]
@@ -95,7 +95,7 @@ module _ {P K : Type 0} (same : K → K → Bool) (e : Exact same) (key : P → 
   sp = same_part same
 
   abbrev hs : List (Part K) → Part K → Bool
-  hs xs x = has sp xs x
+  hs xs x = stands_among sp xs x
 
   -- the priors of a key, and its expansion, by keys alone
   abbrev kp : K → List K
@@ -149,7 +149,7 @@ module _ {P K : Type 0} (same : K → K → Bool) (e : Exact same) (key : P → 
         ];
   }
 
-  has-blocks : (s : List (Part K)) (p : K) → has same (blocks s) p ≡ hs s (Block p)
+  has-blocks : (s : List (Part K)) (p : K) → stands_among same (blocks s) p ≡ hs s (Block p)
   has-blocks [] p = refl
   has-blocks (Prepare q ∷ s) p = has-blocks s p
   has-blocks (Block q ∷ s) p = ap (λ b. same q p || b) (has-blocks s p)
@@ -212,8 +212,8 @@ module _ {P K : Type 0} (same : K → K → Bool) (e : Exact same) (key : P → 
   walk-keeps : (n : ℕ) → Keeps n
   unfolding after
   walk-keeps zero p s l c d = absurd (omega arith)
-  walk-keeps (suc n) p s l c d = elim (cases_Bool (has same (blocks s) (key p))) [
-    | inl h ↦ cond-true (has same (blocks s) (key p)) _ _ h ∙ sym (keep-all_seen sp (part-exact same e) pk (ex (suc n) p) s
+  walk-keeps (suc n) p s l c d = elim (cases_Bool (stands_among same (blocks s) (key p))) [
+    | inl h ↦ cond-true (stands_among same (blocks s) (key p)) _ _ h ∙ sym (keep-all_seen sp (part-exact same e) pk (ex (suc n) p) s
         (λ x g. c.whole (key p) (suc n) x (sym (has-blocks s (key p)) ∙ h) (ap (λ t. hs t x) (sym (keys (suc n) p)) ∙ g)))
     | inr h ↦
         let unblocked : hs s (Block (key p)) ≡ false = sym (has-blocks s (key p)) ∙ h in
@@ -225,7 +225,7 @@ module _ {P K : Type 0} (same : K → K → Bool) (e : Exact same) (key : P → 
         ap (λ t. walks key (walk same key (λ k. priors (key k)) n) t (priors (key p))) same_blocks
         ∙ walks-keeps n (rank (key p)) (priors (key p)) s1 (walk-keeps n) (omega arith) (lower (key p)) (asked-closed (key p) s c) (asked-settled (key p) s d) in
         let last : kw (s1 ++ map pk (kw s1 F)) (Block p ∷ []) ≡ Block p ∷ [] = keep-new sp (part-exact same e) pk (s1 ++ map pk (kw s1 F)) (Block p) [] (unblocked-after n (key p) s unblocked) in
-        cond-false (has same (blocks s) (key p)) _ _ h
+        cond-false (stands_among same (blocks s) (key p)) _ _ h
         ∙ ap (λ t. Prepare p ∷ (t ++ (Block p ∷ []))) inner
         ∙ ap (λ t. Prepare p ∷ (kw s1 F ++ t)) (sym last)
         ∙ ap (λ t. Prepare p ∷ t) (sym (keep-append sp (part-exact same e) pk F (Block p ∷ []) s1))

@@ -8,7 +8,7 @@ use Rattle.std.specs.Ordering.{is_eq, nat_cmp, ordering_then}
 use Rattle.std.specs.BTreeMap.{is_at}
 use Rattle.std.specs.List.{list_any}
 use Rattle.std.proofs.lemmas.Grind.{common_steps}
-use Rattle.just_execution.specs.Firsts.{has}
+use Rattle.just_execution.specs.Firsts.{stands_among}
 use Rattle.just_tasks.specs.contracts.pair.PairOrd.TheImpl.{cmp-value}
 use Rattle.just_execution.proofs.Keeps.{Exact}
 
@@ -81,7 +81,7 @@ pair-equal p q = then-equal (nat_cmp p.recipe q.recipe) (slice_cmp (slice_cmp (s
     ∙ ap (λ b. (p.recipe == q.recipe) && b) (groups-equal p.groups q.groups)
 
 -- so a set of pairs is asked by that test
-pub held : (ps : List Pair) (p : Pair) → list_any (is_at (cmp-value.it p)) ps ≡ has same_pair ps p
+pub held : (ps : List Pair) (p : Pair) → list_any (is_at (cmp-value.it p)) ps ≡ stands_among same_pair ps p
 held [] p = refl
 held (q ∷ ps) p = ap (λ b. b || list_any (is_at (cmp-value.it p)) ps) (pair-equal p q ∙ same-sym p q) ∙ ap (λ b. same_pair q p || b) (held ps p)
 
@@ -91,6 +91,6 @@ with-one true false = refl
 with-one false true = refl
 with-one false false = refl
 
-pub inserted : (old new : List Pair) (pair : Pair) → ((p : Pair) → list_any (is_at (cmp-value.it p)) new ≡ cond (is_eq (cmp-value.it pair p)) true (list_any (is_at (cmp-value.it p)) old)) → (p : Pair) → has same_pair new p ≡ (has same_pair old p || same_pair pair p)
+pub inserted : (old new : List Pair) (pair : Pair) → ((p : Pair) → list_any (is_at (cmp-value.it p)) new ≡ cond (is_eq (cmp-value.it pair p)) true (list_any (is_at (cmp-value.it p)) old)) → (p : Pair) → stands_among same_pair new p ≡ (stands_among same_pair old p || same_pair pair p)
 inserted old new pair h p = sym (held new p) ∙ h p ∙ with-one (is_eq (cmp-value.it pair p)) (list_any (is_at (cmp-value.it p)) old)
-    ∙ ap (λ b. b || is_eq (cmp-value.it pair p)) (held old p) ∙ ap (λ b. has same_pair old p || b) (pair-equal pair p)
+    ∙ ap (λ b. b || is_eq (cmp-value.it pair p)) (held old p) ∙ ap (λ b. stands_among same_pair old p || b) (pair-equal pair p)

@@ -3,7 +3,7 @@ use Rattle.std.proofs.Common.{◌≡◌, ℕ, zero, suc, ◌<◌, ◌≤◌, Boo
 use Rattle.std.specs.Prelude.{flat_map}
 use Rattle.std.proofs.lemmas.Bool.{or_cases, or_left, or_right, true≢false}
 use Rattle.just_graph.proofs.Members.{In}
-use Rattle.just_execution.specs.Firsts.{has}
+use Rattle.just_execution.specs.Firsts.{stands_among}
 use Rattle.just_execution.specs.Expansion.{Part, Prepare, Block, same_part, expansion}
 use Rattle.just_execution.proofs.Walks.{blocks}
 use Rattle.just_execution.proofs.Keeps.{Exact, has-append}
@@ -40,24 +40,24 @@ below-in rank k q [] b i = absurd i
 below-in rank k q (r ∷ rs) b (inl h) = subst (λ t. rank t < k) (sym h) b.0
 below-in rank k q (r ∷ rs) b (inr h) = below-in rank k q rs b.1 h
 
-pub flat-from : {P A : Type 0} (same : A → A → Bool) (f : P → List A) (x : A) (qs : List P) → has same (flat_map f qs) x ≡ true → (q : P) × (In q qs × (has same (f q) x ≡ true))
+pub flat-from : {P A : Type 0} (same : A → A → Bool) (f : P → List A) (x : A) (qs : List P) → stands_among same (flat_map f qs) x ≡ true → (q : P) × (In q qs × (stands_among same (f q) x ≡ true))
 flat-from same f x [] h = absurd (true≢false (sym h))
-flat-from same f x (q ∷ qs) h = elim (or_cases (has same (f q) x) (has same (flat_map f qs) x) (sym (has-append same (f q) (flat_map f qs) x) ∙ h)) [
+flat-from same f x (q ∷ qs) h = elim (or_cases (stands_among same (f q) x) (stands_among same (flat_map f qs) x) (sym (has-append same (f q) (flat_map f qs) x) ∙ h)) [
   | inl k ↦ (q, (inl refl, k))
-  | inr k ↦ let r : (q : _) × (In q qs × (has same (f q) x ≡ true)) = flat-from same f x qs k in (r.0, (inr r.1.0, r.1.1))
+  | inr k ↦ let r : (q : _) × (In q qs × (stands_among same (f q) x ≡ true)) = flat-from same f x qs k in (r.0, (inr r.1.0, r.1.1))
 ]
 
-pub flat-to : {P A : Type 0} (same : A → A → Bool) (f : P → List A) (x : A) (q : P) (qs : List P) → In q qs → has same (f q) x ≡ true → has same (flat_map f qs) x ≡ true
+pub flat-to : {P A : Type 0} (same : A → A → Bool) (f : P → List A) (x : A) (q : P) (qs : List P) → In q qs → stands_among same (f q) x ≡ true → stands_among same (flat_map f qs) x ≡ true
 flat-to same f x q [] i h = absurd i
-flat-to same f x q (r ∷ rs) (inl i) h = has-append same (f r) (flat_map f rs) x ∙ or_left (has same (f r) x) (has same (flat_map f rs) x) (ap (λ t. has same (f t) x) (sym i) ∙ h)
-flat-to same f x q (r ∷ rs) (inr i) h = has-append same (f r) (flat_map f rs) x ∙ or_right (has same (f r) x) (has same (flat_map f rs) x) (flat-to same f x q rs i h)
+flat-to same f x q (r ∷ rs) (inl i) h = has-append same (f r) (flat_map f rs) x ∙ or_left (stands_among same (f r) x) (stands_among same (flat_map f rs) x) (ap (λ t. stands_among same (f t) x) (sym i) ∙ h)
+flat-to same f x q (r ∷ rs) (inr i) h = has-append same (f r) (flat_map f rs) x ∙ or_right (stands_among same (f r) x) (stands_among same (flat_map f rs) x) (flat-to same f x q rs i h)
 
 module _ {P : Type 0} (same : P → P → Bool) (e : Exact same) (priors : P → List P) (rank : P → ℕ) (lower : (p : P) → Below rank (rank p) (priors p)) where
   abbrev pub sp : Part P → Part P → Bool
   sp = same_part same
 
   abbrev pub hs : List (Part P) → Part P → Bool
-  hs xs x = has sp xs x
+  hs xs x = stands_among sp xs x
 
   abbrev pub ex : ℕ → P → List (Part P)
   ex n p = expansion priors n p

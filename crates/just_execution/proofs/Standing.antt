@@ -13,7 +13,7 @@ use Rattle.just_run_layers.specs.Host.{Answer}
 use Rattle.just_run_layers.specs.Interactions.{Log, executed_in, Question, Interaction, Return, Fail, and_then, HasTrace}
 use Rattle.just_tasks.specs.declared.pair.Pair.{Pair}
 use Rattle.just_execution.specs.Account.{AskedTask, OnceTables, NoMore, Asked, Began, own, begun, executions, AreIn, may_be_asked, AreNamed, AskFits, RunFits, FitsTables, Complete, prior_count, asked_count, counts_below, counts, IsFullBelow, IsFull}
-use Rattle.just_execution.specs.Firsts.{has}
+use Rattle.just_execution.specs.Firsts.{stands_among}
 use Rattle.just_tasks.specs.declared.task.Task.{Task}
 use Rattle.just_tasks.specs.Pairs.{OnceTable, put_in, same_pair, prior_dependencies, subsequent_dependencies}
 use Rattle.just_execution.specs.Walking.{State, add_at, counted, opened, ran}
@@ -24,7 +24,7 @@ use Rattle.just_execution.proofs.Keeps.{has-append, or_false}
 -- where a run stands before some tasks
 pub record Stands (tops : List Task) (before : List AskedTask) (done : List Pair) (bound : ℕ) (s : State) (ts : List Task) : Type 0 where
   pub known_all : All (λ (q : Task). In q (may_be_asked tops before)) ts
-  pub table : s.table ≡ has same_pair done
+  pub table : s.table ≡ stands_among same_pair done
   pub settled : Settled bound before done
   pub number : s.number < length s.calls
   pub counter : get_or s.calls s.number 0 + length ts ≤ length (may_be_asked tops before)
@@ -32,7 +32,7 @@ pub record Stands (tops : List Task) (before : List AskedTask) (done : List Pair
 -- where it stands after them
 pub record Walked (recipes : List (Recipe Dependency)) (done : List Pair) (ts : List Task) (s now : State) (u : OnceTables) : Type 0 where
   pub number : now.number ≡ s.number
-  pub table : now.table ≡ has same_pair (done ++ own u)
+  pub table : now.table ≡ stands_among same_pair (done ++ own u)
   pub all_done : AreIn (done ++ own u) ts
   pub named : AllNamed recipes u
   pub complete : Complete recipes u
@@ -81,13 +81,13 @@ gained-none recipes old new n = n ∙ sym (append-nil (executed_in old))
 
 pub gave : (recipes : List (Recipe Dependency)) (tops : List Task) (before : List AskedTask) (done : List Pair) (bound : ℕ) (s now : State) (ts : List Task) (old new : Log)
     (r : Result State Halt) →
-    now.number ≡ s.number → now.table ≡ has same_pair done → now.calls ≡ add_at s.calls s.number (length ts) → AreIn done ts → new ≡ old → (r ≡ Ok now) ⊎ (r ≡ Err Memory) →
+    now.number ≡ s.number → now.table ≡ stands_among same_pair done → now.calls ≡ add_at s.calls s.number (length ts) → AreIn done ts → new ≡ old → (r ≡ Ok now) ⊎ (r ≡ Err Memory) →
     Accounts recipes tops before done bound s ts old new r NoMore
 gave recipes tops before done bound s now ts old new r m t c d n h =
     let more : length ts ≡ length ts + 0 = omega arith in
     let all : Walked recipes done ts s now NoMore = record {
       number = m;
-      table = t ∙ ap (has same_pair) (sym (append-nil done));
+      table = t ∙ ap (stands_among same_pair) (sym (append-nil done));
       all_done = subst (λ ps. AreIn ps ts) (sym (append-nil done)) d;
       named = tt;
       complete = tt;
@@ -156,11 +156,11 @@ walked-then recipes done t ts s now end u v n a b =
     let there : end.calls ≡ add_at now.calls s.number (length ts + prior_count v) ++ counts_below v =
     b.counts ∙ ap (λ i. add_at now.calls i (length ts + prior_count v) ++ counts_below v) a.number in
     let one_more : 1 + length ts ≡ suc (length ts) = omega arith in
-    let all : AreIn ((done ++ own u) ++ own v) (t ∷ ts) = All-cons (λ (q : Task). has same_pair ((done ++ own u) ++ own v) q.pair ≡ true) t ts
-    (has-more (done ++ own u) (own v) t.pair (All-head (λ (q : Task). has same_pair (done ++ own u) q.pair ≡ true) t [] a.all_done)) b.all_done in
+    let all : AreIn ((done ++ own u) ++ own v) (t ∷ ts) = All-cons (λ (q : Task). stands_among same_pair ((done ++ own u) ++ own v) q.pair ≡ true) t ts
+    (has-more (done ++ own u) (own v) t.pair (All-head (λ (q : Task). stands_among same_pair (done ++ own u) q.pair ≡ true) t [] a.all_done)) b.all_done in
     record {
       number = b.number ∙ a.number;
-      table = b.table ∙ ap (has same_pair) (joined-own u v done);
+      table = b.table ∙ ap (stands_among same_pair) (joined-own u v done);
       all_done = subst (λ ps. AreIn ps (t ∷ ts)) (joined-own u v done) all;
       named = AllNamed-join recipes u v a.named b.named;
       complete = Complete-join recipes u v a.complete b.complete;
@@ -287,7 +287,7 @@ fresh-broke recipes ts bound s calls old new r e u a h = record {
 
 -- a task is begun
 run-fits : (recipes : List (Recipe Dependency)) (before : List AskedTask) (done : List Pair) (t : Task) (ps ss : List Task) (v : OnceTables) →
-    In (with_priors t ps) before → has same_pair done t.pair ≡ false → AreIn done ps →
+    In (with_priors t ps) before → stands_among same_pair done t.pair ≡ false → AreIn done ps →
     AreNamed recipes (subsequent_dependencies recipes t.pair.recipe) ss ⊎ ((ss ≡ []) × (v ≡ NoMore) × (NoMore ≡ NoMore)) →
     RunFits recipes before done t ps ss v NoMore
 run-fits recipes before done t ps ss v i n d m = record { asked_before = i; unbegun = n; priors_begun = d; named = m }
@@ -295,7 +295,7 @@ run-fits recipes before done t ps ss v i n d m = record { asked_before = i; unbe
 -- the block failed before its subsequents
 pub block-broke : (recipes : List (Recipe Dependency)) (tops : List Task) (before : List AskedTask) (done : List Pair) (t : Task) (ps : List Task) (calls : List ℕ) (old new : Log)
     (r : Result (List ℕ) Halt) (e : Halt) →
-    In (with_priors t ps) before → has same_pair done t.pair ≡ false → AreIn done ps → r ≡ Err e → (e ≡ Exhausted → ⊥) →
+    In (with_priors t ps) before → stands_among same_pair done t.pair ≡ false → AreIn done ps → r ≡ Err e → (e ≡ Exhausted → ⊥) →
     executed_in new ≡ executed_in old ++ executions recipes (t ∷ []) → Blocks recipes tops before done t ps calls old new r (Began t ps [] NoMore NoMore)
 block-broke recipes tops before done t ps calls old new r e i n d h k g = record {
   gained = g;
@@ -320,7 +320,7 @@ block-none recipes tops before done t ps calls old new r e h k g = record {
 -- its subsequents ran, or failed
 pub block-ran : (recipes : List (Recipe Dependency)) (tops : List Task) (before : List AskedTask) (done : List Pair) (t : Task) (ps ss : List Task) (calls : List ℕ)
     (old mid new : Log) (r : Result (List ℕ) Halt) (v : OnceTables) →
-    In (with_priors t ps) before → has same_pair done t.pair ≡ false → AreIn done ps → AreNamed recipes (subsequent_dependencies recipes t.pair.recipe) ss →
+    In (with_priors t ps) before → stands_among same_pair done t.pair ≡ false → AreIn done ps → AreNamed recipes (subsequent_dependencies recipes t.pair.recipe) ss →
     executed_in mid ≡ executed_in old ++ executions recipes (t ∷ []) → IsFresh recipes ss calls mid new r v → Blocks recipes tops before done t ps calls old new r (Began t ps ss v NoMore)
 block-ran recipes tops before done t ps ss calls old mid new r v i n d m g f =
     let same : length ps + 0 ≡ length ps = omega arith in
@@ -344,7 +344,7 @@ block-ran recipes tops before done t ps ss calls old mid new r v i n d m g f =
 
 -- the task whose priors could not be asked for
 pub ask-broke : (recipes : List (Recipe Dependency)) (tops : List Task) (before : List AskedTask) (done : List Pair) (s : State) (t : Task) (old new : Log) (r : Result State Halt) (e : Halt) →
-    Stands tops before done (suc t.pair.recipe) s (t ∷ []) → has same_pair done t.pair ≡ false → r ≡ Err e → (e ≡ Exhausted → ⊥) → executed_in new ≡ executed_in old →
+    Stands tops before done (suc t.pair.recipe) s (t ∷ []) → stands_among same_pair done t.pair ≡ false → r ≡ Err e → (e ≡ Exhausted → ⊥) → executed_in new ≡ executed_in old →
     Accounts recipes tops before done (suc t.pair.recipe) s (t ∷ []) old new r (Asked (with_priors t []) NoMore)
 ask-broke recipes tops before done s t old new r e a n h k g =
     let f : AskFits recipes tops before (with_priors t []) NoMore = record {
@@ -356,7 +356,7 @@ ask-broke recipes tops before done s t old new r e a n h k g =
     (gained-none recipes old new g) (f, tt) (none-below (suc t.pair.recipe)) (λ j. absurd (k j))
 
 ask-fits : (recipes : List (Recipe Dependency)) (tops : List Task) (before : List AskedTask) (done : List Pair) (s : State) (t : Task) (ps : List Task) (u : OnceTables) →
-    Stands tops before done (suc t.pair.recipe) s (t ∷ []) → has same_pair done t.pair ≡ false → AreNamed recipes (prior_dependencies recipes t.pair.recipe) ps →
+    Stands tops before done (suc t.pair.recipe) s (t ∷ []) → stands_among same_pair done t.pair ≡ false → AreNamed recipes (prior_dependencies recipes t.pair.recipe) ps →
     AskFits recipes tops before (with_priors t ps) u
 ask-fits recipes tops before done s t ps u a n m = record {
   from = All-head (λ (q : Task). In q (may_be_asked tops before)) t [] a.known_all;
@@ -367,7 +367,7 @@ ask-fits recipes tops before done s t ps u a n m = record {
 -- its priors failed
 pub priors-broke : (recipes : List (Recipe Dependency)) (tops : List Task) (before : List AskedTask) (done : List Pair) (s : State) (t : Task) (ps : List Task) (old mid new : Log)
     (r : Result State Halt) (e : Halt) (u : OnceTables) →
-    Stands tops before done (suc t.pair.recipe) s (t ∷ []) → has same_pair done t.pair ≡ false → AreNamed recipes (prior_dependencies recipes t.pair.recipe) ps →
+    Stands tops before done (suc t.pair.recipe) s (t ∷ []) → stands_among same_pair done t.pair ≡ false → AreNamed recipes (prior_dependencies recipes t.pair.recipe) ps →
     executed_in mid ≡ executed_in old → r ≡ Err e → Accounts recipes tops (before ++ with_priors t ps ∷ []) done t.pair.recipe (counted s) ps mid new (Err e) u →
     Accounts recipes tops before done (suc t.pair.recipe) s (t ∷ []) old new r (Asked (with_priors t ps) u)
 priors-broke recipes tops before done s t ps old mid new r e u a n m g h c =
@@ -384,16 +384,16 @@ visit-gained : (recipes : List (Recipe Dependency)) (u v : OnceTables) (old mid 
 visit-gained recipes u v old mid next new g h k = joined-begun recipes u v (executed_in old) (executed_in next) (executed_in new) (h ∙ ap (λ x. x ++ executions recipes (begun u)) g) k
 
 -- the table after the block
-table-put : (table : OnceTable) (now done : List Pair) (pair : Pair) → table ≡ has same_pair now → now ++ pair ∷ [] ≡ done → put_in table pair ≡ has same_pair done
+table-put : (table : OnceTable) (now done : List Pair) (pair : Pair) → table ≡ stands_among same_pair now → now ++ pair ∷ [] ≡ done → put_in table pair ≡ stands_among same_pair done
 table-put table now done pair h k =
-    let here : (q : Pair) → put_in table pair q ≡ has same_pair (now ++ pair ∷ []) q = λ q.
-    ap (λ (f : OnceTable). f q || same_pair pair q) h ∙ ap (λ b. has same_pair now q || b) (sym (or_false (same_pair pair q))) ∙ sym (has-append same_pair now (pair ∷ []) q) in
-    (λ i q. here q i) ∙ ap (has same_pair) k
+    let here : (q : Pair) → put_in table pair q ≡ stands_among same_pair (now ++ pair ∷ []) q = λ q.
+    ap (λ (f : OnceTable). f q || same_pair pair q) h ∙ ap (λ b. stands_among same_pair now q || b) (sym (or_false (same_pair pair q))) ∙ sym (has-append same_pair now (pair ∷ []) q) in
+    (λ i q. here q i) ∙ ap (stands_among same_pair) k
 
 -- the block failed after the priors
 pub visit-broke : (recipes : List (Recipe Dependency)) (tops : List Task) (before : List AskedTask) (done : List Pair) (s now : State) (t : Task) (ps : List Task) (calls : List ℕ)
     (old mid next new : Log) (r : Result State Halt) (e : Halt) (u v : OnceTables) →
-    Stands tops before done (suc t.pair.recipe) s (t ∷ []) → has same_pair done t.pair ≡ false → AreNamed recipes (prior_dependencies recipes t.pair.recipe) ps →
+    Stands tops before done (suc t.pair.recipe) s (t ∷ []) → stands_among same_pair done t.pair ≡ false → AreNamed recipes (prior_dependencies recipes t.pair.recipe) ps →
     executed_in mid ≡ executed_in old → r ≡ Err e → Accounts recipes tops (before ++ with_priors t ps ∷ []) done t.pair.recipe (counted s) ps mid next (Ok now) u →
     Blocks recipes tops ((before ++ with_priors t ps ∷ []) ++ asks u) (done ++ own u) t ps calls next new (Err e) v →
     Accounts recipes tops before done (suc t.pair.recipe) s (t ∷ []) old new r (Asked (with_priors t ps) (join u v))
@@ -418,18 +418,18 @@ visit-walked recipes done s now t ps calls u v m w b =
     record {
       number = w.number;
       table = table-put now.table (done ++ own u) (done ++ own (join u v)) t.pair w.table with_pair;
-      all_done = All-cons (λ (q : Task). has same_pair (done ++ own (join u v)) q.pair ≡ true) t [] (subst (λ d. has same_pair d t.pair ≡ true) with_pair (has-last (done ++ own u) t.pair))
+      all_done = All-cons (λ (q : Task). stands_among same_pair (done ++ own (join u v)) q.pair ≡ true) t [] (subst (λ d. stands_among same_pair d t.pair ≡ true) with_pair (has-last (done ++ own u) t.pair))
           (none-in (done ++ own (join u v)));
       named = (m, AllNamed-join recipes u v w.named b.named);
       complete = Complete-join recipes u v w.complete b.complete;
-      settled = (subst (λ d. has same_pair d t.pair ≡ true) own_here (has-last (own u) t.pair), AreDone-join u v w.settled (subst (λ as0. AreDone (own v) as0) (sym b.asks_is) tt));
+      settled = (subst (λ d. stands_among same_pair d t.pair ≡ true) own_here (has-last (own u) t.pair), AreDone-join u v w.settled (subst (λ as0. AreDone (own v) as0) (sym b.asks_is) tt));
       counts = block-counts u v s.calls now.calls calls s.number 1 (length ps) counted_here b.counts b.priors;
       even = omega (arith, asked-join u v, priors-join u v, w.even, b.asked, b.priors);
     }
 
 pub visit-ran : (recipes : List (Recipe Dependency)) (tops : List Task) (before : List AskedTask) (done : List Pair) (s now : State) (t : Task) (ps : List Task) (calls : List ℕ)
     (old mid next new : Log) (r : Result State Halt) (u v : OnceTables) →
-    Stands tops before done (suc t.pair.recipe) s (t ∷ []) → has same_pair done t.pair ≡ false → AreNamed recipes (prior_dependencies recipes t.pair.recipe) ps →
+    Stands tops before done (suc t.pair.recipe) s (t ∷ []) → stands_among same_pair done t.pair ≡ false → AreNamed recipes (prior_dependencies recipes t.pair.recipe) ps →
     executed_in mid ≡ executed_in old → Accounts recipes tops (before ++ with_priors t ps ∷ []) done t.pair.recipe (counted s) ps mid next (Ok now) u →
     Blocks recipes tops ((before ++ with_priors t ps ∷ []) ++ asks u) (done ++ own u) t ps now.calls next new (Ok calls) v →
     (r ≡ Ok (ran now t calls)) ⊎ (r ≡ Err Memory) →

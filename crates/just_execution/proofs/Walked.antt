@@ -11,7 +11,7 @@ use Rattle.just_run_layers.specs.Interactions.{Question, Interaction, Return, Fa
 use Rattle.just_run_layers.proofs.InteractionLemmas.{then-assoc, then-give}
 use Rattle.just_tasks.specs.declared.pair.Pair.{Pair}
 use Rattle.just_execution.specs.Expansion.{Part, Prepare, Block, part_key}
-use Rattle.just_execution.specs.Firsts.{has}
+use Rattle.just_execution.specs.Firsts.{stands_among}
 use Rattle.just_execution.specs.loops.Lower.{IsLower}
 use Rattle.just_tasks.specs.declared.task.Task.{Task}
 use Rattle.just_tasks.specs.Pairs.{same_pair, put_in, once_key, AllBelow}
@@ -74,7 +74,7 @@ module _ (of_task : TaskInteractions) (lower : IsLower of_task) (f : Question �
 
   -- the state has the table of these pairs
   abbrev At : List Pair → State → Unit {0} → Type 0
-  At xs s u = s.table ≡ has same_pair xs
+  At xs s u = s.table ≡ stands_among same_pair xs
 
   -- the subsequents of a block run below
   abbrev pub IsFresh : Part Task → Type 0
@@ -87,13 +87,13 @@ module _ (of_task : TaskInteractions) (lower : IsLower of_task) (f : Question �
   turned-append : (xs ys : List (Part Task)) → and_then (turned xs) (λ _. turned ys) ≡ turned (xs ++ ys)
   turned-append xs ys = sym (ap in_turn (map-append (part_steps of_task f run) xs ys) ∙ in_turn-append (map (part_steps of_task f run) xs) (map (part_steps of_task f run) ys))
 
-  put-has : (xs : List Pair) (p : Pair) → put_in (has same_pair xs) p ≡ has same_pair (xs ++ p ∷ [])
-  put-has xs p = λ i q. (ap (λ b. has same_pair xs q || b) (sym (or_false (same_pair p q))) ∙ sym (has-append same_pair xs (p ∷ []) q)) i
+  put-has : (xs : List Pair) (p : Pair) → put_in (stands_among same_pair xs) p ≡ stands_among same_pair (xs ++ p ∷ [])
+  put-has xs p = λ i q. (ap (λ b. stands_among same_pair xs q || b) (sym (or_false (same_pair p q))) ∙ sym (has-append same_pair xs (p ∷ []) q)) i
 
   -- parts after parts, with what the table has then
   joined : (s : Interaction State) (next : State → Interaction State) (table : List Pair) (xs ys : List (Part Task)) →
       Within f (At (table ++ keys_of xs)) s (turned xs) →
-      ((z : State) → z.table ≡ has same_pair (table ++ keys_of xs) → Within f (At ((table ++ keys_of xs) ++ keys_of ys)) (next z) (turned ys)) →
+      ((z : State) → z.table ≡ stands_among same_pair (table ++ keys_of xs) → Within f (At ((table ++ keys_of xs) ++ keys_of ys)) (next z) (turned ys)) →
       Within f (At (table ++ keys_of (xs ++ ys))) (and_then s next) (turned (xs ++ ys))
   joined s next table xs ys h k =
       let e : (table ++ keys_of xs) ++ keys_of ys ≡ table ++ keys_of (xs ++ ys) = append_assoc table (keys_of xs) (keys_of ys) ∙ ap (λ t. table ++ t) (sym (keys-append xs ys)) in
@@ -102,13 +102,13 @@ module _ (of_task : TaskInteractions) (lower : IsLower of_task) (f : Question �
       (within-then f (At (table ++ keys_of xs)) (At ((table ++ keys_of xs) ++ keys_of ys)) s (turned xs) next (λ _. turned ys) h (λ z y a b r. k z r)))
 
   abbrev IsWalked : ℕ → Type 0
-  IsWalked j = (s : State) (table : List Pair) (t : Task) → t.pair.recipe < j → s.table ≡ has same_pair table → Each IsFresh (W j table t) →
+  IsWalked j = (s : State) (table : List Pair) (t : Task) → t.pair.recipe < j → s.table ≡ stands_among same_pair table → Each IsFresh (W j table t) →
       Within f (At (table ++ keys_of (W j table t))) (walk_steps of_task j s t) (turned (W j table t))
 
-  nothing : (s : State) (table : List Pair) → s.table ≡ has same_pair table → Within f (At (table ++ keys_of [])) (Return s) (turned [])
-  nothing s table h = inl (refl, h ∙ ap (λ xs. has same_pair xs) (sym (append-nil table)))
+  nothing : (s : State) (table : List Pair) → s.table ≡ stands_among same_pair table → Within f (At (table ++ keys_of [])) (Return s) (turned [])
+  nothing s table h = inl (refl, h ∙ ap (λ xs. stands_among same_pair xs) (sym (append-nil table)))
 
-  pub listed : (j : ℕ) → IsWalked j → (s : State) (table : List Pair) (ts : List Task) → AreLow j ts → s.table ≡ has same_pair table → Each IsFresh (walks once_key (W j) table ts) →
+  pub listed : (j : ℕ) → IsWalked j → (s : State) (table : List Pair) (ts : List Task) → AreLow j ts → s.table ≡ stands_among same_pair table → Each IsFresh (walks once_key (W j) table ts) →
       Within f (At (table ++ keys_of (walks once_key (W j) table ts))) (all_steps (walk_steps of_task j) s ts) (turned (walks once_key (W j) table ts))
   listed j ih s table [] l h g = nothing s table h
   listed j ih s table (t ∷ ts) l h g =
@@ -136,14 +136,14 @@ module _ (of_task : TaskInteractions) (lower : IsLower of_task) (f : Question �
       (within-itself f (of_task.execute t h)) (λ x y d e r.
       within-then f (λ (x y : List Task). x ≡ y) (λ x y. Unit {0}) (of_task.follow t h) (of_task.follow t h) F run (within-itself f (of_task.follow t h)) (λ ts us d e r. own ts us d r)))
 
-  ran-within : (j : ℕ) (t : Task) (a : Prepared) (s : State) (table : List Pair) → result_under f (of_task.ask t) ≡ Ok a → j ≤ n → t.pair.recipe ≤ j → IsFresh (Block t) → s.table ≡ has same_pair table →
+  ran-within : (j : ℕ) (t : Task) (a : Prepared) (s : State) (table : List Pair) → result_under f (of_task.ask t) ≡ Ok a → j ≤ n → t.pair.recipe ≤ j → IsFresh (Block t) → s.table ≡ stands_among same_pair table →
       Within f (At (table ++ keys_of (Block t ∷ []))) (ran_steps of_task (walk_steps of_task j) t a.held s) (turned (Block t ∷ []))
   ran-within j t a s table came b c g h =
       within-then f (λ x y. Unit {0}) (At (table ++ t.pair ∷ [])) (block_steps of_task (walk_steps of_task j) t a.held s.calls) (part_steps of_task f run (Block t)) (λ calls. Return (ran s t calls)) (λ _. Return tt)
       (block-within j t a s.calls came b c g) (λ x y d e r. inl (refl, ap (λ a. put_in a t.pair) h ∙ put-has table t.pair))
 
   -- the questions of a task, and what follows them
-  asked : (j : ℕ) → IsWalked j → (s : State) (table : List Pair) (t : Task) → j ≤ n → t.pair.recipe ≤ j → s.table ≡ has same_pair table → (ws : List (Part Task)) →
+  asked : (j : ℕ) → IsWalked j → (s : State) (table : List Pair) (t : Task) → j ≤ n → t.pair.recipe ≤ j → s.table ≡ stands_among same_pair table → (ws : List (Part Task)) →
       ws ≡ walks once_key (W j) table (priors_by of_task f t) →
       Each IsFresh (Prepare t ∷ (ws ++ Block t ∷ [])) →
       Within f (At (table ++ keys_of (Prepare t ∷ (ws ++ Block t ∷ [])))) (and_then (of_task.ask t) (λ a. and_then (all_steps (walk_steps of_task j) s a.priors) (ran_steps of_task (walk_steps of_task j) t a.held))) (turned (Prepare t ∷ (ws ++ Block t ∷ [])))
@@ -188,7 +188,7 @@ module _ (of_task : TaskInteractions) (lower : IsLower of_task) (f : Question �
       let z : State = counted s in
       let rest : Interaction State = and_then (of_task.ask t) (λ a. and_then (all_steps V z a.priors) (ran_steps of_task V t a.held)) in
       let after : Within f (At (table ++ keys_of (W (suc j) table t))) (visit_steps of_task V t z) (turned (W (suc j) table t)) =
-      either (z.table t.pair) (has same_pair table t.pair) (ap (λ a. a t.pair) h) table xs (Return z) rest (nothing z table h)
+      either (z.table t.pair) (stands_among same_pair table t.pair) (ap (λ a. a t.pair) h) table xs (Return z) rest (nothing z table h)
       (λ k. asked j (walked j (omega arith)) z table t (omega arith) (omega arith) h ws refl k) g in
       tallied (get_or s.calls s.number 0 + 1 == 2 ^ 64) (At (table ++ keys_of (W (suc j) table t))) z (visit_steps of_task V t) (turned (W (suc j) table t)) after
 

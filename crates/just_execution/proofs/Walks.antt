@@ -1,6 +1,6 @@
 -- A walk over parts that skips the pairs of a table.
 use Rattle.std.specs.Prelude.{ℕ, zero, suc, Bool, cond, List, [], ◌∷◌, ◌++◌, map}
-use Rattle.just_execution.specs.Firsts.{has}
+use Rattle.just_execution.specs.Firsts.{stands_among}
 use Rattle.just_execution.specs.Expansion.{Part, Prepare, Block, part_key}
 
 -- the pairs whose blocks are there
@@ -18,4 +18,4 @@ walks key f table (q ∷ qs) = f table q ++ walks key f (table ++ blocks (map (p
 abbrev pub walk : {P K : Type 0} → (K → K → Bool) → (P → K) → (P → List P) → ℕ → List K → P → List (Part P)
 walk same key priors zero table p = []
 walk same key priors (suc n) table p =
-    cond (has same table (key p)) [] (Prepare p ∷ (walks key (walk same key priors n) table (priors p) ++ (Block p ∷ [])))
+    cond (stands_among same table (key p)) [] (Prepare p ∷ (walks key (walk same key priors n) table (priors p) ++ (Block p ∷ [])))

@@ -9,7 +9,7 @@ use Rattle.just_run_layers.specs.Interactions.{Question, Interaction, and_then, 
 use Rattle.just_run_layers.proofs.InteractionLemmas.{then-each}
 use Rattle.just_tasks.specs.declared.pair.Pair.{Pair}
 use Rattle.just_execution.specs.Expansion.{Part, Prepare, Block, same_part, part_key, expansion}
-use Rattle.just_execution.specs.Firsts.{has, without_key, firsts_by}
+use Rattle.just_execution.specs.Firsts.{stands_among, without_key, firsts_by}
 use Rattle.just_execution.specs.loops.Lower.{IsLower}
 use Rattle.just_tasks.specs.declared.task.Task.{Task}
 use Rattle.just_tasks.specs.Pairs.{same_pair, once_key, task, AllBelow}
@@ -92,7 +92,7 @@ module _ {P K : Type 0} (same : K → K → Bool) (name : P → K) (g h : P → 
   walk-agree (suc n) table p a =
       let l : walks name (walk same name g n) table (g p) ≡ walks name (walk same name h n) table (g p) =
       walk-list n (walk-agree n) table (g p) (Each-left (λ x. Alike (part_key name x)) (flat_map (expansion g n) (g p)) (Block p ∷ []) a.1) in
-      ap (λ t. cond (has same table (name p)) [] (Prepare p ∷ (t ++ Block p ∷ []))) (l ∙ ap (walks name (walk same name h n) table) (a.0 p refl))
+      ap (λ t. cond (stands_among same table (name p)) [] (Prepare p ∷ (t ++ Block p ∷ []))) (l ∙ ap (walks name (walk same name h n) table) (a.0 p refl))
 
   pub walks-agree : (n : ℕ) (table : List K) (ps : List P) → Agree (flat_map (expansion g n) ps) → walks name (walk same name g n) table ps ≡ walks name (walk same name h n) table ps
   walks-agree n table ps a = walk-list n (walk-agree n) table ps a

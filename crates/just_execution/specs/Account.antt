@@ -11,7 +11,7 @@ use Rattle.just_errors.specs.declared.halt.Halt.TheVariants.{Memory, Exhausted, 
 use Rattle.just_recipe.specs.declared.recipe.Recipe.{Recipe}
 use Rattle.just_run_layers.specs.Host.{Executed}
 use Rattle.just_tasks.specs.declared.pair.Pair.{Pair}
-use Rattle.just_execution.specs.Firsts.{has}
+use Rattle.just_execution.specs.Firsts.{stands_among}
 use Rattle.just_tasks.specs.declared.task.Task.{Task}
 use Rattle.just_tasks.specs.Pairs.{same_pair, prior_dependencies, subsequent_dependencies}
 use Rattle.just_recipes.specs.Places.{place_of}
@@ -53,7 +53,7 @@ executions recipes ts = flat_map (λ (t : Task). executed_by_recipe t (slice_get
 
 -- the pair of each task is among some pairs
 abbrev pub AreIn : List Pair → List Task → Type 0
-AreIn done ts = All (λ (t : Task). has same_pair done t.pair ≡ true) ts
+AreIn done ts = All (λ (t : Task). stands_among same_pair done t.pair ≡ true) ts
 
 -- what may be asked: the tops, and the priors of those asked
 abbrev pub may_be_asked : List Task → List AskedTask → List Task
@@ -77,14 +77,14 @@ AreNamed recipes (d ∷ ds) ts = (these : List Task) × (others : List Task) × 
 -- its priors are what its recipe names, or asking for them was the last that happened in the table
 pub record AskFits (recipes : List (Recipe Dependency)) (tops : List Task) (asked : List AskedTask) (a : AskedTask) (rest : OnceTables) : Type 0 where
   pub from : In a.task (may_be_asked tops asked)
-  pub unasked : has same_pair (pairs_asked asked) a.task.pair ≡ false
+  pub unasked : stands_among same_pair (pairs_asked asked) a.task.pair ≡ false
   pub named : AreNamed recipes (prior_dependencies recipes a.task.pair.recipe) a.priors ⊎ ((a.priors ≡ []) × (rest ≡ NoMore))
 
 -- a task begun where some were asked and some begun: it was asked, its pair was not begun, and those of its priors were;
 -- its subsequents are what its recipe names, or its beginning was the last that happened in the table
 pub record RunFits (recipes : List (Recipe Dependency)) (asked : List AskedTask) (done : List Pair) (t : Task) (ps ss : List Task) (below rest : OnceTables) : Type 0 where
   pub asked_before : In (record { task = t; priors = ps }) asked
-  pub unbegun : has same_pair done t.pair ≡ false
+  pub unbegun : stands_among same_pair done t.pair ≡ false
   pub priors_begun : AreIn done ps
   pub named : AreNamed recipes (subsequent_dependencies recipes t.pair.recipe) ss ⊎ ((ss ≡ []) × (below ≡ NoMore) × (rest ≡ NoMore))
 

@@ -16,7 +16,7 @@ use Rattle.just_parts.specs.Syntax.{SyntaxAnswers}
 use Rattle.just_recipe.specs.Grouping.{grouped, share}
 use Rattle.just_recipe.specs.declared.dependency.UnresolvedDependency.{UnresolvedDependency}
 use Rattle.just_recipe.specs.declared.recipe.Recipe.{Recipe}
-use Rattle.just_recipe_names.specs.Numbered.{dependency_by, given_by, number_under, numbered_by, numbered_parameters, under_parameters}
+use Rattle.just_recipe_names.specs.Numbered.{dependency_by, argument_given_by, number_under, numbered_by, numbered_parameters, under_parameters}
 use Rattle.just_recipe_values.specs.Valued.{informed, valued_named}
 
 -- arguments are grouped for parameters with numbers as for those without
@@ -30,7 +30,7 @@ same_paths by (d ∷ ds) = ap (λ ps. d.recipe ∷ ps) (same_paths by ds)
 
 same_counts : (by : Expression → Expression) (ds : List UnresolvedDependency) → counts_of (map (dependency_by by) ds) ≡ counts_of ds
 same_counts by [] = refl
-same_counts by (d ∷ ds) = λ i. length-map d.arguments (given_by by) i ∷ same_counts by ds i
+same_counts by (d ∷ ds) = λ i. length-map d.arguments (argument_given_by by) i ∷ same_counts by ds i
 
 -- and as for those that are told of by attributes
 grouped_informed : {A : Type 0} (attributes : List (NamedAttribute Expression)) (lists : Bool) (ps : List Parameter) (left : List A) → grouped lists (map (informed attributes) ps) left ≡ grouped lists ps left

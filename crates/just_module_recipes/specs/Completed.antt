@@ -37,8 +37,8 @@ module _ {S E : Type 0} (answers : SyntaxAnswers) (evaluator : Evaluator) (it : 
   completed_by r = with_values value_here (numbered_by answers it.meanings r)
 
   -- so recipes are, and each has the numbers that stand beside it
-  abbrev pub completion_of : List (Recipe UnresolvedDependency) → Completion
-  completion_of recipes = completion completed_by (StandBeside recipes it.references.now)
+  abbrev pub completion_among : List (Recipe UnresolvedDependency) → Completion
+  completion_among recipes = completion completed_by (StandBeside recipes it.references.now)
 
   -- a rule of a recipe is broken
   abbrev pub BreaksOne : Recipe UnresolvedDependency → Cause → Type 0

@@ -9,7 +9,7 @@ ghost use Rattle.just_module_contents.specs.Definitions.{recipes_in};
 ghost use Rattle.just_module_contents.specs.Recipes.{names_of};
 ghost use Rattle.just_module_contents.specs.Resolved.{AreNew, HasPriors, unresolved_numbers};
 ghost use Rattle.just_module_contents.specs.Standing.{AreStanding, InStanding};
-ghost use Rattle.just_module_recipes.specs.Completed.{BreaksOne, CoversRecipes, TellsLinks, TellsOne, completion_of};
+ghost use Rattle.just_module_recipes.specs.Completed.{BreaksOne, CoversRecipes, TellsLinks, TellsOne, completion_among};
 ghost use Rattle.just_module_recipes.specs.Linked.{AddsLinked, AreSettled, HasDisabled};
 ghost use Rattle.just_module_recipes.specs.Links.{BreaksLinks, Disables, Stands, around_recipes};
 ghost use Rattle.just_module_recipes.specs.Making.{standing, standing_by};
@@ -164,7 +164,7 @@ pub fn link<'a, 'm, 'src, S: Syntax, E: ConstantEvaluation>(
     ensures disabled { let it = around_recipes absent.now modules.now recipes.entry in
         IfOk result (λ made. HasDisabled (Disables (recipes_in kept.now) it) (recipes_in kept.now) made.disabled) }
     ensures linked { let it = completing.now in
-        let done = completion_of (S.answers it.meanings.syntax.now) (E.answers it.among.evaluation.now) it (recipes_in kept.now) in
+        let done = completion_among (S.answers it.meanings.syntax.now) (E.answers it.among.evaluation.now) it (recipes_in kept.now) in
         let adds = AddsLinked done it.meanings.settings.now.lists (recipes_in kept.now) (around_recipes absent.now modules.now recipes.entry) in
         IfOk result (λ made. adds module_path.now made.all) }
     ensures named { let it = completing.now in

@@ -5,7 +5,7 @@ ghost use Rattle.std.specs.HashSet.{contains};
 ghost use Rattle.std.specs.Str.{bytes_eq};
 ghost use Rattle.just_errors.specs.Causes.{Keeps, Reports};
 ghost use Rattle.just_parts.specs.Needs.{Gains, GainsAll, HaveNumbersApart, IsSame, same_number};
-ghost use Rattle.just_name_resolution.specs.Called.{AreBodiesRead, GainsCalled, IsWhole};
+ghost use Rattle.just_name_resolution.specs.Called.{AreBodiesRead, GainsCalled, IsWholeSearch};
 ghost use Rattle.just_module_variables.specs.Resolved.{ResolvesTo};
 ghost use Rattle.just_ast_references.specs.Numbers.{with_numbers};
 ghost use Rattle.just_module_variables.specs.Resolver.{known_by, number_here, overridden, tables_by};
@@ -157,7 +157,7 @@ impl<'a, 'src, S: Syntax> VariableResolver<'a, 'src, S> {
             let gains = GainsCalled m (overridden self.now) (contains same_number references.old) (hides parameters.now) expression.now in
             OnOk result (gains (contains bytes_eq visited.old) (contains bytes_eq visited.new)) }
         ensures whole { let m = tables_by self.now in
-            let whole = IsWhole m (overridden self.now) in
+            let whole = IsWholeSearch m (overridden self.now) in
             let before = whole (contains same_number references.old) (contains bytes_eq visited.old) in
             OnOk result (HaveNumbersApart m → before → whole (contains same_number references.new) (contains bytes_eq visited.new)) }
         ensures refused { OnErr result (IsSame (contains same_number references.old) (contains same_number references.new)) }

@@ -14,7 +14,7 @@ use Rattle.just_ast_expressions.specs.declared.expression.Expression.{Expression
 use Rattle.just_table.specs.Entries.{find}
 use Rattle.just_parts.specs.Known.{Known}
 use Rattle.just_parts.specs.Needs.{GainsThose, HaveNumbersApart, IsSame, same_number}
-use Rattle.just_name_resolution.specs.Called.{GainsCalled, IsCalledFrom, IsWhole, directly, through_body, through_value}
+use Rattle.just_name_resolution.specs.Called.{GainsCalled, IsCalledFrom, IsWholeSearch, directly, through_body, through_value}
 use Rattle.just_parts.specs.Scopes.{Scoped, scoped}
 use Rattle.just_parts.specs.loops.Scopes.{body_scoped, value_scoped}
 use Rattle.just_name_resolution.specs.loops.Search.{Found, IsCalledIn, IsDone, IsSearchFrom, found_in, scoped_of}
@@ -23,7 +23,7 @@ use Rattle.just_name_resolution.proofs.Collecting.{gained}
 use Rattle.just_name_resolution.proofs.Searching.{done_at_last, reads_found}
 
 module _ (m : Known) (overridden : Number → Bool) (firsts : List Scoped) (old : Number → Bool) (visited : Text → Bool) (f : Found)
-    (search : IsSearchFrom m overridden firsts old visited f) (over : f.waiting ≡ []) (apart : HaveNumbersApart m) (whole : IsWhole m overridden old visited) where
+    (search : IsSearchFrom m overridden firsts old visited f) (over : f.waiting ≡ []) (apart : HaveNumbersApart m) (whole : IsWholeSearch m overridden old visited) where
   done_in_the_end : (s : Scoped) → Contains f.waiting s ⊎ IsDone m f s → IsDone m f s
   done_in_the_end = done_at_last m overridden firsts old visited f search over
 
@@ -43,7 +43,7 @@ module _ (m : Known) (overridden : Number → Bool) (firsts : List Scoped) (old 
       ]
 
   -- and what is found belongs together
-  pub whole_again : IsWhole m overridden f.number f.function
+  pub whole_again : IsWholeSearch m overridden f.number f.function
   whole_again = record {
     closed = λ from to a b is there step on set. elim (search.values apart from a is on set) [
       | inl was ↦ search.keeps b.number (whole.closed from to a b is there step on was)
@@ -91,8 +91,8 @@ module _ (m : Known) (overridden : Number → Bool) (hidden : Text → Bool) (e 
   }
 
   pub collected_whole : (references now : Number → Bool) → IsSame old references → GainsThose (contains same_number s.numbers) references now
-      → HaveNumbersApart m → IsWhole m overridden old visited → IsWhole m overridden now new
+      → HaveNumbersApart m → IsWholeSearch m overridden old visited → IsWholeSearch m overridden now new
   collected_whole references now kept gained_numbers apart whole =
-      subst (λ (n : Number → Bool). IsWhole m overridden n new) (λ i n. sym (gained (contains same_number s.numbers) old references now kept gained_numbers n) i)
-      (subst (λ (n : Text → Bool). IsWhole m overridden (λ k. old k || contains same_number s.numbers k) n) (λ i name. sym (are name) i)
+      subst (λ (n : Number → Bool). IsWholeSearch m overridden n new) (λ i n. sym (gained (contains same_number s.numbers) old references now kept gained_numbers n) i)
+      (subst (λ (n : Text → Bool). IsWholeSearch m overridden (λ k. old k || contains same_number s.numbers k) n) (λ i name. sym (are name) i)
       (whole_again m overridden (scoped hidden e ∷ []) old visited (found_in old visited s) search waits_no_more apart whole))

@@ -29,7 +29,7 @@ module _ (m : Known) where
       find name m.assignments ≡ Some a → Reads m (hides f.parameters) f.body name → references a.number ≡ true
 
   -- References and visited functions belong together: whatever is read or called from the body of a visited function, or from the value of a reference that is not overridden, is there too. Nothing at all belongs together.
-  pub record IsWhole (overridden references : Number → Bool) (visited : Text → Bool) : Type 0 where
+  pub record IsWholeSearch (overridden references : Number → Bool) (visited : Text → Bool) : Type 0 where
     pub closed : IsClosed m overridden references
     pub bodies_read : AreBodiesRead references visited
     pub bodies_called : (function name : Text) (f : FunctionDefinition) → find function m.functions ≡ Some f → visited function ≡ true
@@ -41,4 +41,4 @@ module _ (m : Known) where
   pub record GainsCalled (overridden references : Number → Bool) (hidden : Text → Bool) (e : Expression) (old new : Text → Bool) : Type 0 where
     pub keeps : (name : Text) → old name ≡ true → new name ≡ true
     pub only : (name : Text) → new name ≡ true → (old name ≡ true) ⊎ IsCalledFrom m overridden hidden e name
-    pub all : HaveNumbersApart m → IsWhole overridden references old → (name : Text) → IsCalledFrom m overridden hidden e name → new name ≡ true
+    pub all : HaveNumbersApart m → IsWholeSearch overridden references old → (name : Text) → IsCalledFrom m overridden hidden e name → new name ≡ true

@@ -5,7 +5,7 @@ ghost use Rattle.std.specs.HashSet.{contains, hash_set_len, spare};
 ghost use Rattle.std.specs.Str.{bytes_eq};
 ghost use Rattle.just_names.specs.Name.{text_of_name};
 ghost use Rattle.just_parts.specs.Needs.{AreNeeded, AreNeededBy, Gains, GainsAll, GainsThose, HaveNumbersApart, IsSame, has_number, same_number};
-ghost use Rattle.just_name_resolution.specs.Called.{AreBodiesRead, GainsCalled, IsWhole};
+ghost use Rattle.just_name_resolution.specs.Called.{AreBodiesRead, GainsCalled, IsWholeSearch};
 ghost use Rattle.just_name_resolution.specs.loops.Search.{Looks, LooksAtCall, LooksAtName, IsSearchFrom, found_in, hidden_by, scoped_of};
 ghost use Rattle.just_ast_references.specs.Mentions.{mention_of};
 ghost use Rattle.just_table.specs.Entries.{find};
@@ -262,7 +262,7 @@ pub fn collect_references<'a, 'src>(
         let gains = GainsCalled m (has_number overrides.now) (contains same_number references.old) (hides parameters.now) expression.now in
         OnOk result (gains (contains bytes_eq visited.old) (contains bytes_eq visited.new)) }
     ensures whole { let m = tables_in tables.now in
-        let whole = IsWhole m (has_number overrides.now) in
+        let whole = IsWholeSearch m (has_number overrides.now) in
         let before = whole (contains same_number references.old) (contains bytes_eq visited.old) in
         OnOk result (HaveNumbersApart m → before → whole (contains same_number references.new) (contains bytes_eq visited.new)) }
     ensures refused { OnErr result (IsSame (contains same_number references.old) (contains same_number references.new)) }

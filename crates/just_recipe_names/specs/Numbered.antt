@@ -65,11 +65,11 @@ module _ (by : Expression → Expression) where
       (if begins && (settings.ignore_comments && answers.is_comment line) then line else line_by line)
       ∷ shell_lines_by answers settings (ends_group answers settings line begins) lines
 
-  abbrev pub given_by : DependencyArgument → DependencyArgument
-  given_by a = record a { expression = by a.expression }
+  abbrev pub argument_given_by : DependencyArgument → DependencyArgument
+  argument_given_by a = record a { expression = by a.expression }
 
   abbrev pub dependency_by : UnresolvedDependency → UnresolvedDependency
-  dependency_by d = record d { arguments = map given_by d.arguments }
+  dependency_by d = record d { arguments = map argument_given_by d.arguments }
 
   abbrev pub parameter_by : Parameter → Parameter
   parameter_by p = record p { default = option_map by p.default; value = option_map by p.value }

@@ -4,7 +4,7 @@ ghost use Rattle.std.specs.Prelude.{◌≡◌, ℕ, [], List, IfOk, OnOk, Some, 
 ghost use Rattle.std.specs.HashMap.{get};
 ghost use Rattle.std.specs.Str.{bytes_eq};
 ghost use Rattle.just_names.specs.Name.{text_of_name};
-ghost use Rattle.just_recipe_names.specs.Numbered.{dependency_by, given_by, number_under, numbered_by, numbered_parameters, numbered_recipe, parameter_by, parameter_number};
+ghost use Rattle.just_recipe_names.specs.Numbered.{dependency_by, argument_given_by, number_under, numbered_by, numbered_parameters, numbered_recipe, parameter_by, parameter_number};
 ghost use Rattle.just_recipe_names.specs.loops.Numbered.{looked_up};
 
 use crate::attributes::{numbered_attributes, numbered_optional};

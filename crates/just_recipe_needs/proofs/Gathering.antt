@@ -12,7 +12,7 @@ use Rattle.just_name_resolution.proofs.Looking.{added, kept, not_in_none}
 use Rattle.just_name_resolution.proofs.Searching.{not_overridden}
 use Rattle.just_name_resolution.proofs.Sets.{number_itself, one_number}
 use Rattle.just_name_resolution.proofs.Starts.{number_more}
-use Rattle.just_name_resolution.specs.Called.{AreBodiesRead, GainsCalled, IsCalledFrom, IsWhole}
+use Rattle.just_name_resolution.specs.Called.{AreBodiesRead, GainsCalled, IsCalledFrom, IsWholeSearch}
 use Rattle.just_names.specs.Texts.{Text}
 use Rattle.just_names.specs.declared.number.Number.{Number}
 use Rattle.just_parts.specs.Known.{Known, hides, none_hidden}
@@ -77,7 +77,7 @@ module _ (m : Known) (overridden : Number → Bool) where
   module _ (old new : Number → Bool) (visited more : Text → Bool) where
     -- what a search tells
     pub collected : (start : Text → Type 0) → Gains m overridden start old new → (AreBodiesRead m old visited → GainsAll m overridden start old new)
-        → (HaveNumbersApart m → IsWhole m overridden old visited → IsWhole m overridden new more) → Collects m overridden start old visited new more
+        → (HaveNumbersApart m → IsWholeSearch m overridden old visited → IsWholeSearch m overridden new more) → Collects m overridden start old visited new more
     collected start gains all whole = record {
       keeps = gains.keeps;
       only = gains.only;
@@ -143,7 +143,7 @@ module _ (m : Known) (overridden : Number → Bool) where
         is_own apart name b found e =
             same_assigned name b (apart name variable b a found is (sym (one_number a.number b.number e))) found
 
-        whole_on : HaveNumbersApart m → IsWhole m overridden old visited → IsWhole m overridden new more
+        whole_on : HaveNumbersApart m → IsWholeSearch m overridden old visited → IsWholeSearch m overridden new more
         whole_on apart w =
             let now = value.whole apart w in
             record {
@@ -186,7 +186,7 @@ module _ (m : Known) (overridden : Number → Bool) where
 
   -- at the end
   module _ (old : Number → Bool) (visited : Text → Bool) (none : (n : Number) → old n ≡ false) (unvisited : (name : Text) → visited name ≡ false) where
-    whole_nothing : IsWhole m overridden old visited
+    whole_nothing : IsWholeSearch m overridden old visited
     whole_nothing = record {
       closed = λ from to a b f t r on h. absurd (false≢true (sym (none a.number) ∙ h));
       bodies_read = λ function name f a is seen found r. absurd (false≢true (sym (unvisited function) ∙ seen));

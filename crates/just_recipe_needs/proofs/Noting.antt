@@ -19,7 +19,7 @@ use Rattle.just_ast_references.specs.declared.references.Reference.{Reference}
 use Rattle.just_name_resolution.proofs.Looking.{added, kept, not_in_none}
 use Rattle.just_names.specs.Texts.{Text}
 use Rattle.just_parts.specs.Known.{Known}
-use Rattle.just_recipe_needs.specs.loops.Direct.{GainsNames, Notes, NotesCall, function_of, functions_of, variable_of, variables_of}
+use Rattle.just_recipe_needs.specs.loops.Direct.{GainsNames, Notes, NotesCall, function_of, functions_of, mentioned_variable, variables_of}
 use Rattle.just_recipe_needs.specs.declared.direct_names.DirectNames.{DirectNames}
 use Rattle.just_table.specs.Entries.{find}
 
@@ -126,7 +126,7 @@ module _ (m : Known) (hidden : Text → Bool) (all : List Mention) (old : Direct
         said = so.said ++ one;
         whole = append_assoc so.said one (map mention_of rest) ∙ (ap (λ xs. so.said ++ map mention_of xs) (sym e) ∙ so.whole);
         notes = record {
-          variables = subst (λ names. GainsNames names old.variables.keys new.variables.keys) (sym (flat_map-append (variable_of m hidden) so.said one))
+          variables = subst (λ names. GainsNames names old.variables.keys new.variables.keys) (sym (flat_map-append (mentioned_variable m hidden) so.said one))
               (gains_more (variables_of m hidden so.said) (variables_of m hidden one) old.variables.keys between.variables.keys new.variables.keys so.notes.variables more.variables);
           functions = subst (λ names. GainsNames names old.functions.keys new.functions.keys) (sym (flat_map-append (function_of m) so.said one))
               (gains_more (functions_of m so.said) (functions_of m one) old.functions.keys between.functions.keys new.functions.keys so.notes.functions more.functions);

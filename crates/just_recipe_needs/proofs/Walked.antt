@@ -22,7 +22,7 @@ use Rattle.just_parts.specs.Scopes.{Scoped, is_parameter, scoped}
 use Rattle.just_recipe_names.specs.Steps.{Event, Hides, Reads as Read, scopes_from}
 use Rattle.just_recipe_needs.proofs.Noting.{the_one}
 use Rattle.just_recipe_needs.specs.Collected.{IsStart}
-use Rattle.just_recipe_needs.specs.loops.Direct.{AreDirect, AreNames, GainsNames, Notes, function_of, functions_in, functions_of, variable_of, variables_in, variables_of}
+use Rattle.just_recipe_needs.specs.loops.Direct.{AreDirect, AreNames, GainsNames, Notes, function_of, functions_in, functions_of, mentioned_variable, variables_in, variables_of}
 use Rattle.just_recipe_needs.specs.Needed.{AreNumbersOf, HasReferences, IsReadInScopes}
 use Rattle.just_recipe_needs.specs.declared.direct_names.DirectNames.{DirectNames}
 use Rattle.just_table.specs.Entries.{find}
@@ -149,7 +149,7 @@ both_true false b e = absurd (false≢true e)
 
 module _ (m : Known) where
   -- what a mention names
-  named_by : (hidden : Text → Bool) (mention : Mention) (name : Text) → Contains (variable_of m hidden mention) name → (mention ≡ Names name) × (hidden name ≡ false) × IsSome (find name m.assignments)
+  named_by : (hidden : Text → Bool) (mention : Mention) (name : Text) → Contains (mentioned_variable m hidden mention) name → (mention ≡ Names name) × (hidden name ≡ false) × IsSome (find name m.assignments)
   named_by hidden (Calls x arguments) name c = absurd (not_in_none name c)
   named_by hidden (Names x) name c =
       let is = chosen (is_some (find x m.assignments) && not (hidden x)) x name c in
@@ -160,7 +160,7 @@ module _ (m : Known) where
   called_by (Calls x arguments) name c = (arguments, ap (λ y. Calls y arguments) (chosen (is_some (find x m.functions)) x name c).1)
   called_by (Names x) name c = absurd (not_in_none name c)
 
-  name_said : (hidden : Text → Bool) (name : Text) → hidden name ≡ false → IsSome (find name m.assignments) → Contains (variable_of m hidden (Names name)) name
+  name_said : (hidden : Text → Bool) (name : Text) → hidden name ≡ false → IsSome (find name m.assignments) → Contains (mentioned_variable m hidden (Names name)) name
   name_said hidden name shown is =
       subst (λ b. Contains (if b then name ∷ [] else []) name) (sym (ap (λ b. b && not (hidden name)) is ∙ ap not shown)) (Contains-push [] name)
 
@@ -172,7 +172,7 @@ module _ (m : Known) where
         → IsStart m names.variables.keys names.functions.keys name
     from_reading s there h x name (at_once among shown is) =
         let said = subst (λ e. Contains (mentions e) (Names name)) (sym x) among in
-        let own = given (variable_of m s.hidden) (mentions s.expression) (Names name) name said (name_said s.hidden name (ap (λ hides. hides name) h ∙ shown) is) in
+        let own = given (mentioned_variable m s.hidden) (mentions s.expression) (Names name) name said (name_said s.hidden name (ap (λ hides. hides name) h ∙ shown) is) in
         inl (record { from = name; there = (direct.variables name).1 (given (own_variables m) scopes s name there own); leads_there = refl })
     from_reading s there h x name (through {function = function} {f = f} arguments among is r) =
         let said = subst (λ e. Contains (mentions e) (Calls function arguments)) (sym x) among in
@@ -185,7 +185,7 @@ module _ (m : Known) where
     from_start : (name : Text) → IsStart m names.variables.keys names.functions.keys name → IsReadInScopes m scopes name
     from_start name (inl v) =
         let s = giver (own_variables m) scopes v.from ((direct.variables v.from).0 v.there) in
-        let said = giver (variable_of m s.0.hidden) (mentions s.0.expression) v.from s.2 in
+        let said = giver (mentioned_variable m s.0.hidden) (mentions s.0.expression) v.from s.2 in
         let by = named_by s.0.hidden said.0 v.from said.2 in
         subst (IsReadInScopes m scopes) (sym v.leads_there)
         (record { from = s.0; there = s.1; reads = at_once (subst (Contains (mentions s.0.expression)) by.0 said.1) by.1 by.2 })

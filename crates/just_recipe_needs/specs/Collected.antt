@@ -5,9 +5,9 @@ use Rattle.just_names.specs.Texts.{Text}
 use Rattle.just_names.specs.declared.number.Number.{Number}
 use Rattle.just_ast_definitions.specs.declared.assignment.Assignment.{Assignment}
 use Rattle.just_ast_definitions.specs.declared.function_definition.FunctionDefinition.{FunctionDefinition}
-use Rattle.just_name_resolution.specs.Called.{IsCalledFrom, IsWhole}
+use Rattle.just_name_resolution.specs.Called.{IsCalledFrom, IsWholeSearch}
 use Rattle.just_parts.specs.Known.{Known, hides, none_hidden}
-use Rattle.just_parts.specs.Needs.{HaveNumbersApart, IsNumberIn, KeepsAll, Needs, overridden_by}
+use Rattle.just_parts.specs.Needs.{HaveNumbersApart, IsNumberIn, LosesNothing, Needs, overridden_by}
 use Rattle.just_parts.specs.Reading.{Reads}
 use Rattle.just_table.specs.Entries.{find}
 
@@ -37,16 +37,16 @@ module _ (m : Known) (overridden : Number → Bool) where
 
   -- Numbers gain only what is needed from a start, and lose nothing; and where numbers tell variables apart, and numbers and functions belonged together, they still do, and there are those of the start.
   pub record Collects (start : Text → Type 0) (old : Number → Bool) (visited : Text → Bool) (new : Number → Bool) (more : Text → Bool) : Type 0 where
-    pub keeps : KeepsAll old new
+    pub keeps : LosesNothing old new
     pub only : (n : Number) → new n ≡ true → (old n ≡ true) ⊎ IsNumberIn m (Needs m (overridden_by overridden m) start) n
-    pub whole : HaveNumbersApart m → IsWhole m overridden old visited → IsWhole m overridden new more
-    pub all : HaveNumbersApart m → IsWhole m overridden old visited → HaveNumbers start new
+    pub whole : HaveNumbersApart m → IsWholeSearch m overridden old visited → IsWholeSearch m overridden new more
+    pub all : HaveNumbersApart m → IsWholeSearch m overridden old visited → HaveNumbers start new
 
   -- What the value of a variable needs is collected, and what it calls, unless the variable is overridden.
   pub record CollectsValue (a : Assignment) (old : Number → Bool) (visited : Text → Bool) (new : Number → Bool) (more : Text → Bool) : Type 0 where
-    pub keeps : KeepsAll old new
+    pub keeps : LosesNothing old new
     pub only : (n : Number) → new n ≡ true
         → (old n ≡ true) ⊎ ((overridden a.number ≡ false) × IsNumberIn m (Needs m (overridden_by overridden m) (Reads m none_hidden a.value)) n)
-    pub whole : HaveNumbersApart m → IsWhole m overridden old visited → IsWhole m overridden new more
-    pub all : HaveNumbersApart m → IsWhole m overridden old visited → overridden a.number ≡ false → HaveNumbers (Reads m none_hidden a.value) new
-    pub called : HaveNumbersApart m → IsWhole m overridden old visited → overridden a.number ≡ false → (name : Text) → IsCalledFrom m overridden none_hidden a.value name → more name ≡ true
+    pub whole : HaveNumbersApart m → IsWholeSearch m overridden old visited → IsWholeSearch m overridden new more
+    pub all : HaveNumbersApart m → IsWholeSearch m overridden old visited → overridden a.number ≡ false → HaveNumbers (Reads m none_hidden a.value) new
+    pub called : HaveNumbersApart m → IsWholeSearch m overridden old visited → overridden a.number ≡ false → (name : Text) → IsCalledFrom m overridden none_hidden a.value name → more name ≡ true

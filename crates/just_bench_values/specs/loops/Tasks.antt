@@ -70,11 +70,11 @@ module _ (a : Among) where
   functions = functions_in a.functions
 
   -- the value of an expression, of several, of a call, and of a variable
-  abbrev pub value_in : Frame → Expression → Outcome
-  value_in f = value_with f.calls (functions_by_name functions) (constant_values a.constants) (local_values f.locals)
+  abbrev pub frame_value : Frame → Expression → Outcome
+  frame_value f = value_with f.calls (functions_by_name functions) (constant_values a.constants) (local_values f.locals)
 
   abbrev pub values_in : Frame → List Expression → Option (List (List Text))
-  values_in f es = all_of (map (value_in f) es)
+  values_in f es = all_of (map (frame_value f) es)
 
   abbrev pub call_in : Frame → Text → List (List Text) → Outcome
   call_in f = call_with f.calls (functions_by_name functions) (constant_values a.constants)
@@ -87,16 +87,16 @@ module _ (a : Among) where
   call_on f name values rest = option_and_then (λ more. call_in f name (values ++ more)) (values_in f rest)
 
   -- the sink after these tasks, where each value is there
-  abbrev pub ran : List Task → Frame → Sink → Option Sink
-  ran [] f s = Some s
-  ran (task.Value e ∷ ts) f s = option_and_then (λ value. ran ts f (sent s value)) (value_in f e.now)
-  ran (task.Right e ∷ ts) f s = option_and_then (λ value. ran ts f (set_apart true (sent (set_apart false s) value))) (value_in f e.now)
-  ran (task.End ∷ ts) f s = ran ts f (set_apart true s)
-  ran (task.Close outer ∷ ts) f s = ran ts f (sent outer (texts_of s))
-  ran (task.Elements es ∷ ts) f s = option_and_then (λ values. ran ts f (sent s (one_after_another values))) (values_in f es.rest.now)
-  ran (task.Call p ∷ ts) f s = option_and_then (λ value. ran ts f (sent s value)) (call_on f (text_of_name p.name.now) p.values p.rest.now)
-  ran (task.Keep p outer ∷ ts) f s = option_and_then (λ value. ran ts f (sent outer value)) (call_on f (text_of_name p.name.now) (p.values ++ texts_of s ∷ []) p.rest.now)
-  ran (task.Leave outside ∷ ts) f s = ran ts outside s
+  abbrev pub ran_tasks : List Task → Frame → Sink → Option Sink
+  ran_tasks [] f s = Some s
+  ran_tasks (task.Value e ∷ ts) f s = option_and_then (λ value. ran_tasks ts f (sent s value)) (frame_value f e.now)
+  ran_tasks (task.Right e ∷ ts) f s = option_and_then (λ value. ran_tasks ts f (set_apart true (sent (set_apart false s) value))) (frame_value f e.now)
+  ran_tasks (task.End ∷ ts) f s = ran_tasks ts f (set_apart true s)
+  ran_tasks (task.Close outer ∷ ts) f s = ran_tasks ts f (sent outer (texts_of s))
+  ran_tasks (task.Elements es ∷ ts) f s = option_and_then (λ values. ran_tasks ts f (sent s (one_after_another values))) (values_in f es.rest.now)
+  ran_tasks (task.Call p ∷ ts) f s = option_and_then (λ value. ran_tasks ts f (sent s value)) (call_on f (text_of_name p.name.now) p.values p.rest.now)
+  ran_tasks (task.Keep p outer ∷ ts) f s = option_and_then (λ value. ran_tasks ts f (sent outer value)) (call_on f (text_of_name p.name.now) (p.values ++ texts_of s ∷ []) p.rest.now)
+  ran_tasks (task.Leave outside ∷ ts) f s = ran_tasks ts outside s
 
   -- what tasks may take
   abbrev pub left : List Task → ℕ → ℕ
@@ -126,7 +126,7 @@ module _ (a : Among) where
   IsPlaceOfOne (t ∷ ts) place = IsPlaceOfTask t place ⊎ IsPlaceOfOne ts place
 
   abbrev pub outcome_of : State → Option Sink
-  outcome_of s = ran s.tasks s.frame s.sink
+  outcome_of s = ran_tasks s.tasks s.frame s.sink
 
   -- A state leads to another: both come to the same, less is left, and no new places are there.
   pub record Goes (old new : State) : Type 0 where

@@ -44,13 +44,13 @@ abbrev pub IsAfter : List ℕ → Step → HashKey → Type 0
 IsAfter path s h = (h.0.items ≡ path_after path s.enters) × (h.1 ≡ s.target)
 
 -- the links are the places of the keys that the steps of a row lead to from a group
-pub record AreLinked (row : List Step) (path : List ℕ) (places : HashKey → Option ℕ) (links : List ℕ) : Type 0 where
+pub record AreRowLinks (row : List Step) (path : List ℕ) (places : HashKey → Option ℕ) (links : List ℕ) : Type 0 where
   pub sound : (q : ℕ) → Contains links q → (s : Step) × (h : HashKey) × Contains row s × IsAfter path s h × (places h ≡ Some q)
   pub complete : (s : Step) → Contains row s → (h : HashKey) × IsAfter path s h × ((q : ℕ) → places h ≡ Some q → Contains links q)
 
 -- the same of each element, with the steps from its node
 abbrev pub EachLinked : (ℕ → List Step) → List Unfolded → (HashKey → Option ℕ) → List (Vec ℕ Global) → Type 0
-EachLinked S us places links = EachRow (λ k row. (u : Unfolded) → slice_get us k ≡ Some u → AreLinked (S u.node) u.path.items places row) (length us) links
+EachLinked S us places links = EachRow (λ k row. (u : Unfolded) → slice_get us k ≡ Some u → AreRowLinks (S u.node) u.path.items places row) (length us) links
 
 -- the elements have these depths, and are the same otherwise
 pub record AreNoted (depths : List (Option ℕ)) (old new : List Unfolded) : Type 0 where

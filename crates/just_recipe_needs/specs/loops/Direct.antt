@@ -11,9 +11,9 @@ use Rattle.just_table.specs.Entries.{find}
 
 module _ (m : Known) where
   -- the variable that is named, where it is not hidden
-  abbrev pub variable_of : (Text → Bool) → Mention → List Text
-  variable_of hidden (Calls name arguments) = []
-  variable_of hidden (Names name) = if is_some (find name m.assignments) && not (hidden name) then name ∷ [] else []
+  abbrev pub mentioned_variable : (Text → Bool) → Mention → List Text
+  mentioned_variable hidden (Calls name arguments) = []
+  mentioned_variable hidden (Names name) = if is_some (find name m.assignments) && not (hidden name) then name ∷ [] else []
 
   -- the function that is called
   abbrev pub function_of : Mention → List Text
@@ -22,7 +22,7 @@ module _ (m : Known) where
 
   -- those of what an expression says
   abbrev pub variables_of : (Text → Bool) → List Mention → List Text
-  variables_of hidden = flat_map (variable_of hidden)
+  variables_of hidden = flat_map (mentioned_variable hidden)
 
   abbrev pub functions_of : List Mention → List Text
   functions_of = flat_map function_of
