@@ -1,18 +1,19 @@
 -- Steps of a scan and edges of files.
-use Rattle.std.proofs.Common.{◌≡◌, ℕ, zero, suc, ◌+◌, ◌-◌, ◌<◌, Bool, true, false, List, [], ◌∷◌, ◌++◌, map, take, length, get_or, slice_index, Option, None, Some, refl, sym, ap, subst, ◌∙◌, arith, inl, inr}
+use Rattle.std.proofs.Common.{◌≡◌, ℕ, zero, suc, ◌+◌, ◌-◌, ◌<◌, ◌≤◌, Bool, true, false, List, [], ◌∷◌, ◌++◌, map, take, drop, length, get_or, slice_index, Option, None, Some, refl, sym, ap, subst, ◌∙◌, arith, inl, inr}
 use Rattle.std.specs.Prelude.{if◌then◌else◌, unwrap_or}
 use Rattle.std.specs.List.{Contains, slice_get}
 use Rattle.std.specs.declared.vec.Vec.{Vec}
 use Rattle.std.specs.declared.alloc.Global.{Global}
 use Rattle.std.proofs.lemmas.Bool.{cases_lt}
-use Rattle.std.proofs.lemmas.List.{length-map, get_or_default}
+use Rattle.std.proofs.lemmas.List.{length-map, length-drop, length_push, get_or-drop, get_or_default}
 use Rattle.std.proofs.lemmas.Option.{slice_get_within, get_or_from_slice_get}
 use Rattle.just_graph.specs.Building.{targets_past}
 use Rattle.just_graph.specs.Graph.{HasEdge}
-use Rattle.just_graph.specs.Steps.{Leads, by_step, by_steps, in_take, IsCircle, circle_by}
+use Rattle.just_graph.specs.Steps.{Leads, by_step, by_steps, in_take, IsWalk, IsOnce, IsCircle, circle_by, ClosesWalk, closes_by}
 use Rattle.just_graph.specs.Unfolding.{HasStep, AreEdges, IsOrdered, steps}
 use Rattle.just_graph.specs.declared.unfolding.Step.{Step}
-use Rattle.just_graph.proofs.Members.{In, contained, is_in, in_left, in_last, in_map, from_map, in_flat, from_flat}
+use Rattle.just_graph.proofs.Members.{In, in_cases, the_one, contained, is_in, in_left, in_last, in_map, from_map, in_flat, from_flat}
+use Rattle.just_graph.proofs.Pushes.{push_old, push_new}
 use Rattle.just_graph.proofs.Trails.{of_reverse}
 use Rattle.just_paths.specs.Clean.{folder_of}
 use Rattle.just_names.specs.Name.{text_of_name}
@@ -54,13 +55,6 @@ link_of_step (Some (Imports literal optional)) l s h = let p = from_map _ s (end
 link_of_step (Some (Declares name literal optional)) l s h = let p = from_map _ s (end_of_link l) h in link_of_end l p.0 p.1 ∙ ap (λ (x : FileStep). To x.to) (sym p.2)
 link_of_step None l s h = absurd h
 
--- a file that is reached ends a chain
-chain_to : (w : World) (f : List ℕ) → IsReachedFile w f → (files : List (List ℕ)) × ChainTo w files f × Contains files f
-chain_to w _ from_root = (w.root ∷ [], at_root, contained w.root (w.root ∷ []) (inl refl))
-chain_to w _ (from_file {f} {g} r l) =
-    let c = chain_to w f r in
-    (c.0 ++ g ∷ [], and_next c.1 l, contained g (c.0 ++ g ∷ []) (in_last g c.0))
-
 -- a step from a place of the order leads to one
 step_in_order : (rows : List (Vec Step Global)) (ordered : IsOrdered rows 0) (a b : ℕ) → Contains ordered.1 a → HasStep rows a b → Contains ordered.1 b
 step_in_order rows ordered a b c h =
@@ -80,12 +74,19 @@ root_in_order rows ordered =
 pub edges_lent : {rows lent : List (Vec Step Global)} {edges shown : List (Vec ℕ Global)} → lent ≡ rows → shown ≡ edges → AreEdges lent edges → AreEdges rows shown
 edges_lent {rows} {lent} {edges} {shown} e f are = subst (λ r. AreEdges r shown) e (subst (AreEdges lent) (sym f) are)
 
--- a circle of edges is one of steps
-pub circle_of_steps : (rows : List (Vec Step Global)) (edges : List (Vec ℕ Global)) (ns : List ℕ) → AreEdges rows edges → IsCircle (HasEdge edges) ns → IsCircle (HasStep rows) ns
-circle_of_steps rows edges ns are c = circle_by (λ a b h. elim (cases_lt a (length rows)) [
+-- an edge is a step
+step_of_listed : (rows : List (Vec Step Global)) (edges : List (Vec ℕ Global)) → AreEdges rows edges → (a b : ℕ) → HasEdge edges a b → HasStep rows a b
+step_of_listed rows edges are a b h = elim (cases_lt a (length rows)) [
   | inl l ↦ of_reverse b (map (λ (s : Step). s.target) (steps rows a)) (subst (λ row. Contains row b) (are.rows a l) h)
   | inr l ↦ absurd (is_in b [] (subst (λ row. Contains row b) (targets_past edges a (omega (arith, are.count))) h))
-]) ns c
+]
+
+-- so a circle of edges is one of steps, and closes a walk of steps
+pub circle_of_steps : (rows : List (Vec Step Global)) (edges : List (Vec ℕ Global)) (ns : List ℕ) → AreEdges rows edges → IsCircle (HasEdge edges) ns → IsCircle (HasStep rows) ns
+circle_of_steps rows edges ns are c = circle_by (step_of_listed rows edges are) ns c
+
+pub way_of_steps : (rows : List (Vec Step Global)) (edges : List (Vec ℕ Global)) (starts shown ns : List ℕ) → AreEdges rows edges → shown ≡ starts → ClosesWalk (HasEdge edges) shown ns → ClosesWalk (HasStep rows) starts ns
+way_of_steps rows edges starts shown ns are e c = subst (λ xs. ClosesWalk (HasStep rows) xs ns) e (closes_by (step_of_listed rows edges are) shown ns c)
 
 pub circle_inside : (rows : List (Vec Step Global)) (ns : List ℕ) → ((a b : ℕ) → HasStep rows a b → b < length rows) → IsCircle (HasStep rows) ns → (k : ℕ) → k < length ns → slice_index ns k < length rows
 circle_inside rows ns within c zero h =
@@ -166,32 +167,76 @@ module _ (w : World) (scan : Scan) (is : IsScan w scan) where
         let s = leads_by_steps p.0 f f p.1 l in
         ordered.3.no_circle p.0 p.2 (subst (Leads (HasStep rows) p.0) (is.once s.0 p.0 f s.1 p.1) s.2)
 
-  module _ (ns : List ℕ) (c : IsCircle (HasStep rows) ns) where
-    path_of : (k : ℕ) → k < length ns → (p : List ℕ) × (slice_get paths (slice_index ns k) ≡ Some p)
-    path_of k h = read_at paths (slice_index ns k) (omega (arith, circle_inside rows ns is.within c k h, is.count, length-map scan.files.items (λ (f : ScannedFile). f.path)))
+  -- a walk of places from the root, none twice
+  module _ (way : List ℕ) (begins : slice_index way 0 ≡ 0) (walk : IsWalk (HasStep rows) way) (once : IsOnce way) where
+    place_inside : (k : ℕ) → k < length way → slice_index way k < length paths
+    place_inside zero h = omega (arith, begins, slice_get_within paths 0 w.root is.root)
+    place_inside (suc k) h =
+        let l : slice_index way (k + 1) < length rows = is.within _ _ (walk k (omega arith)) in
+        let e : slice_index way (suc k) ≡ slice_index way (k + 1) = ap (slice_index way) (omega arith) in
+        omega (arith, is.count, length-map scan.files.items (λ (f : ScannedFile). f.path))
 
-    -- a chain to a file of the circle that has the first one
-    chain_along : (k : ℕ) (first p : List ℕ) → k < length ns → slice_get paths (slice_index ns 0) ≡ Some first → slice_get paths (slice_index ns k) ≡ Some p → (files : List (List ℕ)) × ChainTo w files p × Contains files first × IsReachedFile w p
-    chain_along zero first p h at to =
-        let here : IsReachedFile w p = (is.reached p).0 (got paths (slice_index ns 0) p to) in
-        let r = chain_to w p here in
-        (r.0, r.1, subst (Contains r.0) (some_same (sym to ∙ at)) r.2, here)
-    chain_along (suc k) first p h at to =
-        let before = path_of k (omega arith) in
-        let r = chain_along k first before.0 (omega arith) at before.1 in
-        let step : HasStep rows (slice_index ns k) (slice_index ns (suc k)) = subst (λ n. HasStep rows (slice_index ns k) (slice_index ns n)) (omega arith) (c.walk k (omega arith)) in
-        let l : FileLeadsTo w before.0 p = edge_of_step (slice_index ns k) (slice_index ns (suc k)) before.0 p before.1 to step in
-        (r.0 ++ p ∷ [], and_next r.1 l, contained first (r.0 ++ p ∷ []) (in_left first r.0 (p ∷ []) (is_in first r.0 r.2)), from_file r.3 l)
+    -- a chain to p that has just the files at the first places of the walk
+    record IsAlong (k : ℕ) (p : List ℕ) (files : List (List ℕ)) : Type 0 where
+      chain : ChainTo w files p
+      placed : (g : List ℕ) → In g files → (j : ℕ) × (j ≤ k) × (slice_get paths (slice_index way j) ≡ Some g)
+      has : (j : ℕ) (g : List ℕ) → j ≤ k → slice_get paths (slice_index way j) ≡ Some g → In g files
+      reached : IsReachedFile w p
 
+    chain_along : (k : ℕ) (p : List ℕ) → k < length way → slice_get paths (slice_index way k) ≡ Some p → (files : List (List ℕ)) × IsAlong k p files
+    chain_along zero p h to =
+        let first : slice_get paths (slice_index way 0) ≡ Some w.root = ap (slice_get paths) begins ∙ is.root in
+        let here : IsAlong 0 w.root (w.root ∷ []) = record {
+          chain = at_root;
+          placed = λ g i. elim i [ inl e ↦ (0, omega arith, first ∙ ap Some (sym e)) | inr none ↦ absurd none ];
+          has = λ j g l at. let e : j ≡ 0 = omega arith in inl (some_same (sym at ∙ ap (λ n. slice_get paths (slice_index way n)) e ∙ first));
+          reached = from_root;
+        } in
+        (w.root ∷ [], subst (λ q. IsAlong 0 q (w.root ∷ [])) (some_same (sym first ∙ to)) here)
+    chain_along (suc k) p h to =
+        let before = read_at paths (slice_index way k) (place_inside k (omega arith)) in
+        let along = chain_along k before.0 (omega arith) before.1 in
+        let files : List (List ℕ) = along.0 in let r = along.1 in
+        let step : HasStep rows (slice_index way k) (slice_index way (suc k)) = subst (λ n. HasStep rows (slice_index way k) (slice_index way n)) (omega arith) (walk k (omega arith)) in
+        let l : FileLeadsTo w before.0 p = edge_of_step (slice_index way k) (slice_index way (suc k)) before.0 p before.1 to step in
+        let new : Contains files p → ⊥ = λ c. let j = r.placed p (is_in p files c) in once j.0 (suc k) (omega (arith, j.1)) h (is.once (slice_index way j.0) (slice_index way (suc k)) p j.2 to) in (
+          files ++ p ∷ [],
+          record {
+            chain = and_next r.chain l new;
+            placed = λ g i. elim (in_cases g files (p ∷ []) i) [
+              | inl a ↦ let j = r.placed g a in (j.0, omega (arith, j.1), j.2)
+              | inr (inl e) ↦ (suc k, omega arith, to ∙ ap Some (sym e))
+              | inr (inr none) ↦ absurd none
+            ];
+            has = λ j g b at. elim (cases_lt j (suc k)) [
+              | inl a ↦ in_left g files (p ∷ []) (r.has j g (omega arith) at)
+              | inr a ↦
+                  let e : j ≡ suc k = omega arith in
+                  let same : p ≡ g = some_same (sym to ∙ ap (λ n. slice_get paths (slice_index way n)) (sym e) ∙ at) in
+                  subst (λ x. In x (files ++ p ∷ [])) same (in_last p files)
+            ];
+            reached = from_file r.reached l;
+          },
+        )
+
+  module _ (ns : List ℕ) (c : IsCircle (HasStep rows) ns) (closed : ClosesWalk (HasStep rows) (0 ∷ []) ns) where
     -- the files at the last two places of the circle
     pub names_circle : (n a b : ℕ) (current last : List ℕ) → n ≡ length ns → a ≡ get_or ns (n - 1 - 1) a → b ≡ get_or ns (n - 1) b → slice_get paths a ≡ Some current → slice_get paths b ≡ Some last → BreaksCircle w (LeadsBack current last)
     names_circle n a b current last len is_a is_b at to =
-        let before : n - 1 - 1 < length ns = omega (arith, c.steps) in
-        let end : n - 1 < length ns = omega (arith, c.steps) in
-        let a_is : a ≡ slice_index ns (n - 1 - 1) = is_a ∙ get_or_default ns (n - 1 - 1) a 0 before in
-        let b_is : b ≡ slice_index ns (n - 1) = is_b ∙ get_or_default ns (n - 1) b 0 end in
-        let first : slice_get paths (slice_index ns 0) ≡ Some last = ap (slice_get paths) (c.closed ∙ ap (λ m. slice_index ns (m - 1)) (sym len) ∙ sym b_is) ∙ to in
-        let r = chain_along (n - 1 - 1) last current before first (ap (slice_get paths) (sym a_is) ∙ at) in
+        let way : List ℕ = closed.way in
+        let round : List ℕ = drop closed.place way in
+        let back : ℕ = slice_index way closed.place in
+        let round_len : length round ≡ length way - closed.place = length-drop closed.place way in
+        let whole : length ns ≡ length round + 1 = ap length closed.closes ∙ length_push round back in
+        let inside : closed.place < length way = closed.inside in
+        let a_is : a ≡ slice_index ns (n - 1 - 1) = is_a ∙ get_or_default ns (n - 1 - 1) a 0 (omega arith) in
+        let b_is : b ≡ slice_index ns (n - 1) = is_b ∙ get_or_default ns (n - 1) b 0 (omega arith) in
+        let a_last : a ≡ slice_index way (length way - 1) =
+        a_is ∙ ap (λ xs. slice_index xs (n - 1 - 1)) closed.closes ∙ push_old round back (n - 1 - 1) (omega arith) ∙ get_or-drop closed.place way (n - 1 - 1) 0 ∙ ap (slice_index way) (omega arith) in
+        let b_back : b ≡ back = b_is ∙ ap (λ xs. slice_index xs (n - 1)) closed.closes ∙ push_new round back (n - 1) (omega arith) in
+        let begins : 0 ≡ slice_index way 0 = the_one 0 (slice_index way 0) closed.begins in
+        let r = chain_along way (sym begins) closed.walk closed.once (length way - 1) current (omega arith) (ap (slice_get paths) (sym a_last) ∙ at) in
+        let has : In last r.0 = r.1.has closed.place last (omega arith) (ap (slice_get paths) (sym b_back) ∙ to) in
         let step : HasStep rows (slice_index ns (n - 1 - 1)) (slice_index ns (n - 1)) = subst (λ m. HasStep rows (slice_index ns (n - 1 - 1)) (slice_index ns m)) (omega (arith, c.steps)) (c.walk (n - 1 - 1) (omega (arith, c.steps))) in
         let edge : HasStep rows a b = subst (λ x. HasStep rows x b) (sym a_is) (subst (HasStep rows (slice_index ns (n - 1 - 1))) (sym b_is) step) in
-        leads_back r.0 r.3 (edge_of_step a b current last at to edge) r.1 r.2
+        leads_back r.0 r.1.reached (edge_of_step a b current last at to edge) r.1.chain (contained last r.0 has)

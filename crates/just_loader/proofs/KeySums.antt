@@ -37,7 +37,7 @@ sum_map g f (x ∷ xs) = sum_by-cons g (f x) (map f xs) ∙ ap (λ n. g (f x) + 
 reached_in : (w : World) {files : List (List ℕ)} {f : List ℕ} → ChainTo w files f → (g : List ℕ) → In g files → (g ≡ f) ⊎ FileLeadsOn w g f
 reached_in w at_root g (inl e) = inl e
 reached_in w at_root g (inr h) = absurd h
-reached_in w (and_next {files = files} {g = h} c l) g i = elim (in_cases g files (h ∷ []) i) [
+reached_in w (and_next {files = files} {g = h} c l new) g i = elim (in_cases g files (h ∷ []) i) [
   | inl a ↦ inr (elim (reached_in w c g a) [ inl e ↦ by_edge (subst (λ x. FileLeadsTo w x h) (sym e) l) | inr more ↦ leads_after w more l ])
   | inr (inl e) ↦ inl e
   | inr (inr none) ↦ absurd none

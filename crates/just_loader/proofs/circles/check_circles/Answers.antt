@@ -1,11 +1,11 @@
-use Rattle.std.proofs.Common.{◌≡◌, length, ◌-◌, subst, sym, refl, arith, lit<}
+use Rattle.std.proofs.Common.{◌≡◌, [], ◌∷◌, length, ◌-◌, subst, sym, refl, arith, lit<}
 use Rattle.std.proofs.lemmas.Grind.{common_steps}
 use Rattle.std.specs.List.{Contains}
 use Rattle.just_graph.specs.Graph.{HasEdge}
-use Rattle.just_graph.specs.Steps.{IsOrder, IsCircle}
+use Rattle.just_graph.specs.Steps.{IsOrder, IsCircle, ClosesWalk}
 use Rattle.just_graph.specs.Unfolding.{AreEdges, HasStep}
 use Rattle.just_graph.proofs.Trails.{steps_order, edges_inside}
-use Rattle.just_loader.proofs.FileCircles.{edges_lent, none_leads_back, names_circle, circle_of_steps, read_inside}
+use Rattle.just_loader.proofs.FileCircles.{edges_lent, none_leads_back, names_circle, circle_of_steps, way_of_steps, read_inside}
 use Rattle.just_loader.proofs.circles.check_circles.Goals as goal
 
 pub order-requires-clause-graph : goal.order-requires-clause-graph
@@ -42,5 +42,6 @@ pub returns-clause-named : goal.returns-clause-named
 returns-clause-named c = λ w is.
     let edge : IsCircle (HasEdge c.as_slice-2.result.now) c.in-Err.circle.items = rw c.in-Err.is at c.in_ok-order.ensures.circle in
     let circle : IsCircle (HasStep c.args.scan.now.rows.items) c.in-Err.circle.items = circle_of_steps c.args.scan.now.rows.items c.as_slice-2.result.now c.in-Err.circle.items (edges_lent c.as_slice.ensures.value c.as_slice-2.ensures.value c.in_ok-edges.ensures) edge in
+    let way : ClosesWalk (HasStep c.args.scan.now.rows.items) (0 ∷ []) c.in-Err.circle.items = way_of_steps c.args.scan.now.rows.items c.as_slice-2.result.now (0 ∷ []) c.as_slice-3.result.now c.in-Err.circle.items (edges_lent c.as_slice.ensures.value c.as_slice-2.ensures.value c.in_ok-edges.ensures) c.as_slice-3.ensures (rw c.in-Err.is at c.in_ok-order.ensures.way) in
     let len : c.len-last.result ≡ length c.in-Err.circle.items = grind (arith, common_steps) in
-    names_circle w c.args.scan.now is c.in-Err.circle.items circle c.len-last.result c.index.result.now c.index-2.result.now c.in_ok-path_at.field-0 c.in_ok-path_at-2.field-0 len c.index.ensures c.index-2.ensures c.in_ok-path_at.ensures c.in_ok-path_at-2.ensures
+    names_circle w c.args.scan.now is c.in-Err.circle.items circle way c.len-last.result c.index.result.now c.index-2.result.now c.in_ok-path_at.field-0 c.in_ok-path_at-2.field-0 len c.index.ensures c.index-2.ensures c.in_ok-path_at.ensures c.in_ok-path_at-2.ensures
