@@ -1,38 +1,25 @@
 -- What is bound for a body is bound for its lines.
-use Rattle.std.proofs.Common.{◌≡◌, true, List, [], ◌∷◌, ◌++◌, refl, subst, All}
+use Rattle.std.proofs.Common.{◌≡◌, true, List, [], ◌∷◌, subst, All}
 use Rattle.std.specs.Prelude.{flat_map, if◌then◌else◌}
 use Rattle.std.proofs.lemmas.List.Elements.{All-cons, All-nil}
-use Rattle.just_ast_definitions.specs.declared.line.Fragment.{Fragment}
-use Rattle.just_ast_definitions.specs.declared.line.Fragment.TheVariants as fragment
 use Rattle.just_ast_definitions.specs.declared.line.Line.{Line}
 use Rattle.just_ast_expressions.specs.declared.scope.Scope.{Scope}
 use Rattle.just_ast_expressions.specs.declared.settings.Settings.{Settings}
 use Rattle.just_parts.specs.Known.{Known}
 use Rattle.just_parts.specs.Scopes.{attribute_expressions, line_expressions, lines_read, in_attributes, read_lines}
-use Rattle.just_parts.specs.Scopes as scopes
 use Rattle.just_parts.specs.Syntax.{SyntaxAnswers}
 use Rattle.just_run_layers.specs.Covering.{IsCovered}
-use Rattle.just_run_layers.specs.Covering as covering
 use Rattle.just_recipe.specs.Script.{is_script}
 use Rattle.just_recipe.specs.declared.recipe.Recipe.{Recipe}
 use Rattle.just_recipe_body.specs.Covering.{IsBodyCovered, IsLineCovered}
 use Rattle.just_recipe_body.proofs.AllLemmas.{all-left, all-right}
-
--- the expressions of a line are told by two words
-same-fragment : (f : Fragment) → scopes.fragment_expressions f ≡ covering.fragment_expressions f
-same-fragment (fragment.Text token) = refl
-same-fragment (fragment.Interpolation e) = refl
-
-same-fragments : (fs : List Fragment) → flat_map scopes.fragment_expressions fs ≡ flat_map covering.fragment_expressions fs
-same-fragments [] = refl
-same-fragments (f ∷ fs) = λ i. same-fragment f i ++ same-fragments fs i
 
 module _ (known : Known) (scope : Scope) where
   pub lines-covered : (ls : List Line) → All (IsCovered known scope) (flat_map line_expressions ls) → All (IsLineCovered known scope) ls
   lines-covered [] h = All-nil (IsLineCovered known scope)
   lines-covered (l ∷ ls) h =
       All-cons (IsLineCovered known scope) l ls
-      (subst (All (IsCovered known scope)) (same-fragments l.fragments) (all-left (IsCovered known scope) (line_expressions l) (flat_map line_expressions ls) h))
+      (all-left (IsCovered known scope) (line_expressions l) (flat_map line_expressions ls) h)
       (lines-covered ls (all-right (IsCovered known scope) (line_expressions l) (flat_map line_expressions ls) h))
 
 -- the lines of a script

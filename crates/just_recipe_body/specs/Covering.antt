@@ -9,7 +9,6 @@ use Rattle.just_parts.specs.Scopes.{attribute_expressions, line_expressions, lin
 use Rattle.just_parts.specs.Syntax.{SyntaxAnswers}
 use Rattle.just_recipe.specs.declared.recipe.Recipe.{Recipe}
 use Rattle.just_run_layers.specs.Covering.{IsCovered}
-use Rattle.just_run_layers.specs.Covering as covering
 
 -- Whatever the attributes of a recipe and the lines that are read have is bound in a scope, under the settings of its module.
 abbrev pub IsBodyCovered : {D : Type 0} → SyntaxAnswers → Settings → Known → Scope → Recipe D → Type 0
@@ -18,4 +17,4 @@ IsBodyCovered syntax settings known scope r =
 
 -- for the private functions: what a line reads is bound
 abbrev pub IsLineCovered : Known → Scope → Line → Type 0
-IsLineCovered known scope line = All (IsCovered known scope) (covering.line_expressions line)
+IsLineCovered known scope line = All (IsCovered known scope) (line_expressions line)
