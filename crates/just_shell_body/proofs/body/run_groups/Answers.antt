@@ -1,7 +1,7 @@
 use Rattle.std.proofs.Common.{List, ◌+◌, length, drop, Option, Ok, subst, arith}
 use Rattle.std.specs.Prelude.{Result}
 use Rattle.std.proofs.lemmas.List.{length-drop}
-use Rattle.std.proofs.lemmas.List.Elements.{All-tail}
+use Rattle.std.proofs.lemmas.List.Elements.{All-head, All-tail}
 use Rattle.std.specs.List.{All}
 use Rattle.just_ast_definitions.specs.declared.line.Line.{Line}
 use Rattle.just_errors.specs.declared.halt.Halt.{Halt}
@@ -51,6 +51,14 @@ returns-in-Ended-clause-took g c =
     (one-group p b prep (drop c.loop-at.at c.args.lines.now) group others _ _ (Ok tt) c.group_at-group.ensures.first
     (took-then p q (keeps-both _ _ _ _ c.in_ok-run_group.ensures.keeps c.in_ok-run_group.ensures.keeps_host) (group_steps b prep group) (unless_ended (lines_steps b prep others)) _ _ _ Ended (Ok tt)
     (rw c.in-Ended.is at c.in_ok-run_group.ensures.took) (took-give q _ tt)))
+
+pub run_group-requires-clause-covered : goal.run_group-requires-clause-covered
+run_group-requires-clause-covered g c =
+    let b : BodyContents = body_contents_of (g.S.Syntax.answers c.args.body.now.syntax.now) c.args.body.now in
+    let group : List Line = c.group_at-group.result.now in
+    let others : List Line = drop (c.loop-at.at + length group) c.args.lines.now in
+    let covered : List Line → Type 0 = IsGroupCovered b.syntax b.context.settings (module_of c.args.body.now.context.now) b.scope in
+    All-head covered group (groups b.syntax b.context.settings others) (subst (All covered) c.group_at-group.ensures.first c.loop-at.invariant.covered)
 
 pub loop-at-preserved : goal.loop-at-preserved
 loop-at-preserved g c =
