@@ -80,7 +80,7 @@ impl Recorder {
 
     // Counts a call. The error is that this one is refused.
     fn count(&mut self) -> Result<(), AllocError>
-        ensures call_counted { self.new ≡ call_counted self.old }
+        ensures counted { self.new ≡ call_counted self.old }
         ensures refused { is_refused self.old ≡ is_err result }
     {
         match self.left {

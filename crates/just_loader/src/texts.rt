@@ -147,7 +147,7 @@ pub(crate) fn read_text<'src, S: Syntax>(
         IsAstRead (S.answers syntax.now) file.now.relative file.now.text ast }
     requires few { texts.old.numerator ≤ 2 ^ 64 }
     ensures read { IfOk result (IsAstReadBy (S.answers syntax.now) file.now.relative file.now.text source.now) }
-    ensures takes_numbers { IfOk result (λ ast. TakesText place (takes_numbers (S.answers syntax.now) file.now) texts.old texts.new (numbers_of_items ast.items)) }
+    ensures takes { IfOk result (λ ast. TakesText place (takes_numbers (S.answers syntax.now) file.now) texts.old texts.new (numbers_of_items ast.items)) }
     ensures fits { OnOk result (texts.new.numerator ≤ 2 ^ 64) }
     ensures stopped { IfErr result (Refuses (S.answers syntax.now) file.now.relative file.now.text texts.old.numerator) }
 {
