@@ -73,7 +73,7 @@ use Rattle.just_compiled.proofs.Aliasing.{all_aliased, means_in, means_nothing}
 use Rattle.just_compiled.proofs.Bridges.{aliases_back, links_back}
 use Rattle.just_module_contents.specs.Groups.{OfAliases}
 use Rattle.just_module_contents.specs.Rules.{BreaksAliasTargets, under, unknown_target}
-use Rattle.just_module_aliases.specs.Aliased.{aliases_of, alias_meant, no_aliases, targets as targets_made, targets_of}
+use Rattle.just_module_aliases.specs.Aliased.{aliases_of, alias_meant, no_aliases, alias_targets, targets_of}
 use Rattle.just_ast_definitions.specs.declared.alias.Alias.{Alias}
 use Rattle.just_names.specs.declared.name.Namepath.{Namepath}
 use Rattle.just_module_tree.specs.Standing.{HasTargetInTree, links_in, name_in, of_targets, told_in}
@@ -120,7 +120,7 @@ module _ (cs : Contents) (standing : List (Recipe UnresolvedDependency)) (ast : 
       let out = out-roll-Justfile (record (out-Justfile j) { name = label.name; doc = label.doc; groups = label.groups; private = label.private }) in
       record {
         recipes_are = ap (λ x. x.recipes) out ∙ is.recipes_are;
-        aliases_are = ap (λ x. x.aliases) out ∙ is.aliases_are ∙ (λ i. aliases_of (targets_made (sym out i).absent_modules (sym out i).disabled_recipes (sym out i).modules (sym out i).recipes) cs.aliases);
+        aliases_are = ap (λ x. x.aliases) out ∙ is.aliases_are ∙ (λ i. aliases_of (alias_targets (sym out i).absent_modules (sym out i).disabled_recipes (sym out i).modules (sym out i).recipes) cs.aliases);
         unexports_are = ap (λ x. x.unexports) out ∙ is.unexports_are;
         loaded_is = ap (λ x. x.loaded) out ∙ is.loaded_is;
         source_is = ap (λ x. x.source) out ∙ is.source_is;

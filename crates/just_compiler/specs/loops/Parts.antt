@@ -12,7 +12,7 @@ use Rattle.just_module_contents.specs.Standing.{AreStanding}
 use Rattle.just_justfile.specs.declared.disabled.Disabled.{Disabled}
 use Rattle.just_module_recipes.specs.Completing.{Completion}
 use Rattle.just_module_recipes.specs.Linked.{AddsLinked, HasDisabled}
-use Rattle.just_module_recipes.specs.Links.{Around, Disables, Stands, BreaksStanding, around as around_made}
+use Rattle.just_module_recipes.specs.Links.{Around, Disables, Stands, BreaksStanding, around_recipes}
 use Rattle.just_module_recipes.specs.loops.Links.{links_by, told_by}
 use Rattle.just_paths.specs.declared.modulepath.Modulepath.{Modulepath}
 use Rattle.just_recipe.specs.declared.dependency.Dependency.{Dependency}
@@ -50,7 +50,7 @@ pub record AreSurroundings (enabled : Item → Bool) (files : Files) (joined : J
 
 -- what is around the recipes of a module with these surroundings
 abbrev pub around_by : Surroundings → List (Recipe Dependency) → Around
-around_by it held = around_made it.notes.absent_modules it.modules held
+around_by it held = around_recipes it.notes.absent_modules it.modules held
 
 -- what is broken of the recipes of a module that is checked, over what is around them, and what an error may tell of them
 abbrev pub BreaksChecked : Layers → Checked → Around → Cause → Type 0

@@ -21,7 +21,7 @@ use Rattle.just_compiled.proofs.Settling.{around_settled, named_settled, ordered
 use Rattle.just_graph.proofs.Members.{contained}
 use Rattle.just_justfile.specs.Walks.{AreOrdered}
 use Rattle.just_module_contents.specs.declared.notes.Notes.{Notes}
-use Rattle.just_module_recipes.specs.Links.{Around, around as around_made}
+use Rattle.just_module_recipes.specs.Links.{Around, around_recipes}
 use Rattle.just_module_recipes.specs.loops.Links.{links_by, told_by}
 use Rattle.just_module_contents.specs.Named.{contents_from, naming_by, said_from, variable_by}
 use Rattle.just_module_contents.specs.Resolved.{HasPriors, unresolved_numbers}
@@ -131,8 +131,8 @@ returns-in_err-justfile-clause-named g c =
       labels = checked.labels.items;
       named = labels_named (given_by g.S.Syntax.answers g.E.ConstantEvaluation.answers c.args.given.now) c.args.files.now c.args.joined.now c.args.place c.as_slice-row.result.now row c.ast_at-ast.result.now c.ast_at-ast.ensures c.in_ok-checked.checked c.in_ok-checked.ensures.checked c.in_ok-checked.ensures.kept;
       broken = λ inner same.
-          let about : around_by around c.args.gathered.recipes ≡ around_made (notes_of_place (g.S.Syntax.answers c.args.given.now.syntax.now).enabled c.args.files.now c.args.joined.now c.args.place).absent_modules (by_name (with_labels inner checked.labels.items)) c.args.gathered.recipes =
-          λ i. around_made (ap (λ (n : Notes). n.absent_modules) there.notes_are i) ((there.modules_are inner same ∙ ap (λ labels. by_name (with_labels inner labels)) c.as_slice.ensures.value) i) c.args.gathered.recipes in
+          let about : around_by around c.args.gathered.recipes ≡ around_recipes (notes_of_place (g.S.Syntax.answers c.args.given.now.syntax.now).enabled c.args.files.now c.args.joined.now c.args.place).absent_modules (by_name (with_labels inner checked.labels.items)) c.args.gathered.recipes =
+          λ i. around_recipes (ap (λ (n : Notes). n.absent_modules) there.notes_are i) ((there.modules_are inner same ∙ ap (λ labels. by_name (with_labels inner labels)) c.as_slice.ensures.value) i) c.args.gathered.recipes in
           subst (λ (x : Around). BreaksPlace (given_by g.S.Syntax.answers g.E.ConstantEvaluation.answers c.args.given.now) c.args.files.now c.args.joined.now c.args.place (links_by (contents_of_place (g.S.Syntax.answers c.args.given.now.syntax.now).enabled c.args.files.now c.args.joined.now c.args.place) x) (told_by (contents_of_place (g.S.Syntax.answers c.args.given.now.syntax.now).enabled c.args.files.now c.args.joined.now c.args.place) x) e) about
           (subst (λ (n : Contents). BreaksPlace (given_by g.S.Syntax.answers g.E.ConstantEvaluation.answers c.args.given.now) c.args.files.now c.args.joined.now c.args.place (links_by n (around_by around c.args.gathered.recipes)) (told_by n (around_by around c.args.gathered.recipes)) e) m
           (breaks_recipes (given_by g.S.Syntax.answers g.E.ConstantEvaluation.answers c.args.given.now) c.args.files.now c.args.joined.now c.args.place c.as_slice-row.result.now row c.ast_at-ast.result.now c.ast_at-ast.ensures c.in_ok-checked.checked c.in_ok-checked.ensures.checked c.in_ok-checked.ensures.kept links told e b));
