@@ -40,13 +40,15 @@ fn add_doc(doc: Option<&str>, text: &mut String) -> Result<(), AllocError> {
 }
 
 // Adds the recipes under a heading, each as it is called.
-fn add_recipes(
-    recipes: &[&Recipe],
+fn add_recipes<'src>(
+    root: &Justfile<'src>,
+    recipes: &Recipes<'src>,
     alloc: Global,
+    config: &Config,
     group: &str,
     text: &mut String,
 ) -> Result<(), AllocError> {
-    for recipe in recipes {
+    for recipe in root.public_recipes(alloc, config, recipes)? {
         if is_recipe_under(recipe, alloc, group)? {
             let name = recipe.name();
             write!(text, "    {}", RecipeSignature { name, recipe })?;
@@ -58,12 +60,13 @@ fn add_recipes(
 
 // Adds the modules under a heading.
 fn add_modules(
-    modules: &[&Justfile],
+    root: &Justfile,
     alloc: Global,
+    config: &Config,
     group: &str,
     text: &mut String,
 ) -> Result<(), AllocError> {
-    for module in modules {
+    for module in root.public_modules(alloc, config)? {
         if is_module_under(module, alloc, group)? {
             write!(text, "    {} ...", module.name())?;
             add_doc(module.doc.as_ref().map(|doc| doc.as_str()), text)?;
@@ -83,16 +86,14 @@ pub(crate) fn add_printed<'src>(
 ) -> Result<(), AllocError> {
     let mut config = Config::new(alloc);
     config.unsorted = word == "unsorted";
-    let public = root.public_recipes(alloc, &config, recipes)?;
-    let modules = root.public_modules(alloc, &config)?;
     let mut printed = String::new(alloc);
     printed.push_str("Available recipes:\n")?;
-    add_recipes(public.as_slice(), alloc, "", &mut printed)?;
-    add_modules(modules.as_slice(), alloc, "", &mut printed)?;
+    add_recipes(root, recipes, alloc, &config, "", &mut printed)?;
+    add_modules(root, alloc, &config, "", &mut printed)?;
     for group in root.public_groups(alloc, &config, recipes)? {
         write!(printed, "\n    [{group}]\n")?;
-        add_recipes(public.as_slice(), alloc, group.as_str(), &mut printed)?;
-        add_modules(modules.as_slice(), alloc, group.as_str(), &mut printed)?;
+        add_recipes(root, recipes, alloc, &config, group.as_str(), &mut printed)?;
+        add_modules(root, alloc, &config, group.as_str(), &mut printed)?;
     }
     add_lines(printed.as_str(), text)
 }
